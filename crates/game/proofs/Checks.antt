@@ -1,0 +1,46 @@
+-- The check's value, as the loop comes to it, and what follows from it.
+use mathlib.Core.List.{List, []}
+use mathlib.Core.Path.{_≡_, sym, _∙_, ap}
+use Prim.Native.Nat.{ℕ, _<_, _≤_}
+use native.Mathlib.Omega.{arith}
+use lib.ListN.{length}
+use Rattle.std.specs.declared.option.Option.{Option}
+use Rattle.std.specs.declared.option.Option.the-variants.{Some, None}
+use Rattle.std.proofs.shelf.Tests.{cond-true, cond-false, eq-eqb, ne-eqb}
+use Rattle.game.specs.declared.sheet.Entry.{Entry}
+use Rattle.game.specs.Positions.{Position}
+use Rattle.game.specs.Laws.{Bounded, Rises, KeepsKind, Lawful}
+use Rattle.game.specs.Sheets.{Settles}
+use Rattle.game.specs.Refusals.{Refused}
+use Rattle.game.specs.First.{firstBelow}
+use Rattle.game.specs.Checking.{checked, refusedBy, AcceptsKeeping, UniqueColours}
+use Rattle.game.proofs.Firsts.{first-found}
+use Rattle.game.proofs.Kept.{accepted-keeps, keeps-accepted}
+use Rattle.game.proofs.Settled.{settled, same-colours}
+
+module _ (ps : List Position) (es : List Entry) (n : ℕ) (count : n ≡ length ps) where
+  pub told-length : (length es ≡ n → ⊥) → Some (record { number = 11; values = [] }) ≡ checked ps es
+  told-length other = sym (cond-false _ _ _ (ne-eqb (length es) (length ps) (λ e. other (e ∙ sym count))))
+
+  module _ (size : length es ≡ n) (v : ℕ) (clear : firstBelow (refusedBy ps es) v ≡ None) where
+    pub told-found : (x : Refused) → Some x ≡ refusedBy ps es v → v < length es → Some x ≡ checked ps es
+    told-found x e h = sym (cond-true _ _ _ (eq-eqb (length es) (length ps) (size ∙ count)) ∙ first-found (refusedBy ps es) v (length ps) x clear (sym e) (omega arith))
+
+    pub told-none : v ≤ length es → length es ≤ v → None ≡ checked ps es
+    told-none a b =
+        let end : length ps ≡ v = omega arith in
+        sym (cond-true _ _ _ (eq-eqb (length es) (length ps) (size ∙ count)) ∙ ap (firstBelow (refusedBy ps es)) end ∙ clear)
+
+-- what follows from the value
+module _ (ps : List Position) (bounded : Bounded ps) (rises : Rises ps) (keeps : KeepsKind ps) (es : List Entry) (answer : Option Refused) (is : answer ≡ checked ps es) where
+  lawful : Lawful ps
+  lawful = record { bounded = bounded; rises = rises; keeps = keeps }
+
+  pub accepts : AcceptsKeeping ps es answer
+  accepts = record { keeps = λ n. accepted-keeps ps es (sym is ∙ n); accepts = λ k. is ∙ keeps-accepted ps es k }
+
+  pub wins : answer ≡ None → Settles ps es
+  wins n = settled ps lawful es (accepted-keeps ps es (sym is ∙ n))
+
+  pub unique : answer ≡ None → UniqueColours ps es
+  unique n fs m = same-colours ps lawful es fs (accepted-keeps ps es (sym is ∙ n)) (accepted-keeps ps fs m)

@@ -1,0 +1,11 @@
+pub mod Sides
+pub mod Answered
+pub mod Firsts
+pub mod Entries
+pub mod Pigeonhole
+pub mod Paths
+pub mod Sound
+pub mod Exclusive
+pub mod Settled
+pub mod Kept
+pub mod Checks

@@ -1,0 +1,9 @@
+pub mod Sides
+pub mod Positions
+pub mod Laws
+pub mod Winning
+pub mod Sheets
+pub mod Rules
+pub mod Refusals
+pub mod First
+pub mod Checking

@@ -1,0 +1,32 @@
+-- What a refusal tells.
+use mathlib.Core.List.{List, [], _∷_}
+use Prim.Native.Nat.{ℕ}
+use Rattle.std.specs.declared.option.Option.{Option}
+use Rattle.std.specs.declared.option.Option.the-variants.{Some, None}
+use Rattle.std.specs.declared.result.Result.{Result}
+use Rattle.std.specs.declared.result.Result.the-variants.{Ok, Err}
+use Rattle.game.specs.declared.refusal.Refusal.{Refusal}
+use Rattle.game.specs.declared.refusal.Refusal.the-variants.{Length, Colour, Choice, Move, Rank, Fall}
+
+-- The number of a refusal, and the values that it carries, in order.
+pub record Refused : Type 0 where
+  pub number : ℕ
+  pub values : List ℕ
+
+-- A refusal with one value.
+abbrev pub refusedAt : ℕ → ℕ → Refused
+refusedAt v n = record { number = n; values = v ∷ [] }
+
+-- The check's refusals: 11 for the length, else the number of the broken rule, with the position.
+abbrev pub tells : Refusal → Refused
+tells Length = record { number = 11; values = [] }
+tells (Colour v) = refusedAt v 21
+tells (Choice v) = refusedAt v 22
+tells (Move v) = refusedAt v 23
+tells (Rank v) = refusedAt v 24
+tells (Fall v) = refusedAt v 25
+
+-- What the check's result tells: nothing where the sheet is accepted.
+abbrev pub told : Result (Unit {0}) Refusal → Option Refused
+told (Ok _) = None
+told (Err e) = Some (tells e)

@@ -1,0 +1,184 @@
+// The check: a sheet is accepted exactly if it keeps the five rules, and then its colours say who wins.
+ghost use mathlib.Core.Bool.{true};
+ghost use mathlib.Core.Path.{_≡_};
+ghost use Prim.Native.Nat.{ℕ, _<_};
+ghost use lib.ListN.{length};
+ghost use Rattle.std.specs.declared.option.Option.the-variants.{None};
+ghost use Rattle.std.specs.Options.{mapped};
+ghost use Rattle.game.specs.Positions.{position, degree, target};
+ghost use Rattle.game.specs.Sheets.{entryOf, Settles};
+ghost use Rattle.game.specs.Refusals.{refusedAt, told};
+ghost use Rattle.game.specs.Checking.{choiceFits, eachCounting, keepsColour, rankFits, rankFalls, brokenFor, refusedBy, checked, AcceptsKeeping, UniqueColours};
+use crate::arena::Game;
+use crate::refusal::Refusal;
+use crate::sheet::Entry;
+use crate::side::Side;
+use crate::side::SidePartialEq;
+
+// What a position is, but for where its moves lead.
+#[derive(Clone, Copy)]
+struct Place {
+    owner: Side,
+    level: usize,
+    kind: Side,
+    degree: usize,
+}
+
+// Whether moves keep the rules 23 and 25.
+#[derive(Clone, Copy)]
+struct MoveRules {
+    keeps_colour: bool,
+    rank_falls: bool,
+}
+
+fn choice_fits(own: bool, choice: u16, moves: usize) -> bool
+    ensures { λ r. ⌜ r ≡ choiceFits own choice moves ⌝ }
+{
+    if own {
+        (choice as usize) < moves
+    } else {
+        choice == 0
+    }
+}
+
+fn rank_fits(home: bool, rank: u16) -> bool
+    ensures { λ r. ⌜ r ≡ rankFits home rank ⌝ }
+{
+    if home { rank == 0 } else { rank >= 1 }
+}
+
+// The level of position `v`, which is there.
+fn level_of<G: Game>(game: &G, v: usize) -> usize
+    requires { ⌜ v < length (G·Game .meaning (now game)) ⌝ }
+    ensures { λ r. ⌜ r ≡ position (G·Game .meaning (now (game .entry))) v .level ⌝ }
+{
+    game.level(v).unwrap()
+}
+
+// Where move `k` of `v` leads, which is there.
+fn target_of<G: Game>(game: &G, v: usize, k: usize) -> usize
+    requires { ⌜ k < degree (G·Game .meaning (now game)) v ⌝ }
+    ensures value { λ r. ⌜ r ≡ target (G·Game .meaning (now (game .entry))) v k ⌝ }
+    ensures bound { λ r. ⌜ r < length (G·Game .meaning (now (game .entry))) ⌝ }
+{
+    game.target(v, k).unwrap()
+}
+
+// Position `v`, which is there.
+fn place_of<G: Game>(game: &G, v: usize) -> Place
+    requires { ⌜ v < length (G·Game .meaning (now game)) ⌝ }
+    ensures owner { λ r. ⌜ r .owner ≡ position (G·Game .meaning (now (game .entry))) v .owner ⌝ }
+    ensures level { λ r. ⌜ r .level ≡ position (G·Game .meaning (now (game .entry))) v .level ⌝ }
+    ensures kind { λ r. ⌜ r .kind ≡ position (G·Game .meaning (now (game .entry))) v .kind ⌝ }
+    ensures degree { λ r. ⌜ r .degree ≡ degree (G·Game .meaning (now (game .entry))) v ⌝ }
+{
+    Place {
+        owner: game.owner(v).unwrap(),
+        level: level_of(game, v),
+        kind: game.kind(v).unwrap(),
+        degree: game.degree(v).unwrap(),
+    }
+}
+
+// Whether move `k` of `v` keeps the rules 23 and 25, if it counts.
+fn rules_of_move<G: Game>(game: &G, sheet: &[Entry], v: usize, k: usize, level: usize) -> MoveRules
+    requires sized { ⌜ length (now sheet) ≡ length (G·Game .meaning (now game)) ⌝ }
+    requires within { ⌜ v < length (now sheet) ⌝ }
+    requires counted { ⌜ k < degree (G·Game .meaning (now game)) v ⌝ }
+    requires level { ⌜ level ≡ position (G·Game .meaning (now game)) v .level ⌝ }
+    ensures keeps_colour { λ r. ⌜ r .«keeps_colour» ≡ keepsColour (G·Game .meaning (now (game .entry))) (now (sheet .entry)) v k ⌝ }
+    ensures rank_falls { λ r. ⌜ r .«rank_falls» ≡ rankFalls (G·Game .meaning (now (game .entry))) (now (sheet .entry)) v k ⌝ }
+{
+    let w = target_of(game, v, k);
+    MoveRules {
+        keeps_colour: sheet[w].colour == sheet[v].colour,
+        rank_falls: level_of(game, w) != level || sheet[w].rank < sheet[v].rank,
+    }
+}
+
+// Whether each move of `v` that counts keeps the rules 23 and 25.
+fn rules_of_moves<G: Game>(
+    game: &G,
+    sheet: &[Entry],
+    v: usize,
+    own: bool,
+    place: Place,
+) -> MoveRules
+    requires sized { ⌜ length (now sheet) ≡ length (G·Game .meaning (now game)) ⌝ }
+    requires within { ⌜ v < length (now sheet) ⌝ }
+    requires level { ⌜ place .level ≡ position (G·Game .meaning (now game)) v .level ⌝ }
+    requires degree { ⌜ place .degree ≡ degree (G·Game .meaning (now game)) v ⌝ }
+    requires choice { ⌜ choiceFits own (entryOf (now sheet) v .choice) (place .degree) ≡ true ⌝ }
+    ensures keeps_colour { λ r. ⌜ r .«keeps_colour» ≡ eachCounting own (entryOf (now (sheet .entry)) v .choice) (place .degree) (keepsColour (G·Game .meaning (now (game .entry))) (now (sheet .entry)) v) ⌝ }
+    ensures rank_falls { λ r. ⌜ r .«rank_falls» ≡ eachCounting own (entryOf (now (sheet .entry)) v .choice) (place .degree) (rankFalls (G·Game .meaning (now (game .entry))) (now (sheet .entry)) v) ⌝ }
+{
+    if own {
+        return rules_of_move(game, sheet, v, sheet[v].choice as usize, place.level);
+    }
+    let mut keeps_colour = true;
+    let mut rank_falls = true;
+    for k in 0..place.degree {
+        let step = rules_of_move(game, sheet, v, k, place.level);
+        keeps_colour &= step.keeps_colour;
+        rank_falls &= step.rank_falls;
+    }
+    MoveRules {
+        keeps_colour,
+        rank_falls,
+    }
+}
+
+// The first of the rules 22 to 25 that the entry of `v`, whose colour is `c`, breaks.
+fn check_for<G: Game>(game: &G, sheet: &[Entry], v: usize, c: Side) -> Result<(), Refusal>
+    requires sized { ⌜ length (now sheet) ≡ length (G·Game .meaning (now game)) ⌝ }
+    requires within { ⌜ v < length (now sheet) ⌝ }
+    ensures { λ r. ⌜ told r ≡ mapped (refusedAt v) (brokenFor (G·Game .meaning (now (game .entry))) (now (sheet .entry)) v c) ⌝ }
+{
+    let place = place_of(game, v);
+    let own = c == place.owner;
+    if !choice_fits(own, sheet[v].choice, place.degree) {
+        return Err(Refusal::Choice(v));
+    }
+    let moves = rules_of_moves(game, sheet, v, own, place);
+    if !moves.keeps_colour {
+        return Err(Refusal::Move(v));
+    }
+    let home = c == place.kind;
+    if !rank_fits(home, sheet[v].rank) {
+        return Err(Refusal::Rank(v));
+    }
+    let falls = home | moves.rank_falls;
+    if !falls {
+        return Err(Refusal::Fall(v));
+    }
+    Ok(())
+}
+
+// The first rule that the entry of `v` breaks.
+fn check_entry<G: Game>(game: &G, sheet: &[Entry], v: usize, entry: Entry) -> Result<(), Refusal>
+    requires sized { ⌜ length (now sheet) ≡ length (G·Game .meaning (now game)) ⌝ }
+    requires within { ⌜ v < length (now sheet) ⌝ }
+    requires entry { ⌜ entry ≡ entryOf (now sheet) v ⌝ }
+    ensures { λ r. ⌜ told r ≡ refusedBy (G·Game .meaning (now (game .entry))) (now (sheet .entry)) v ⌝ }
+{
+    match Side::from_number(entry.colour) {
+        Some(c) => check_for(game, sheet, v, c),
+        None => Err(Refusal::Colour(v)),
+    }
+}
+
+// Accepts a sheet, or says which rule it breaks first: its length, then the entries from position 0 upwards.
+pub fn check<G: Game>(game: &G, sheet: &[Entry]) -> Result<(), Refusal>
+    ensures first_broken { λ r. ⌜ told r ≡ checked (G·Game .meaning (now (game .entry))) (now (sheet .entry)) ⌝ }
+    ensures accepts_keeping { λ r. ⌜ AcceptsKeeping (G·Game .meaning (now (game .entry))) (now (sheet .entry)) (told r) ⌝ }
+    ensures colours_win { λ r. ⌜ (told r ≡ None → Settles (G·Game .meaning (now (game .entry))) (now (sheet .entry))) ⌝ }
+    ensures colours_unique { λ r. ⌜ (told r ≡ None → UniqueColours (G·Game .meaning (now (game .entry))) (now (sheet .entry))) ⌝ }
+{
+    if sheet.len() != game.count() {
+        return Err(Refusal::Length);
+    }
+    for (v, entry) in sheet.iter().enumerate() {
+        check_entry(game, sheet, v, *entry)?;
+    }
+    Ok(())
+}

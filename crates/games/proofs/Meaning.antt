@@ -1,0 +1,131 @@
+-- The game that two lists make: what its positions are, and that lists without a fault make one with the bounds and both laws.
+use mathlib.Core.Bool.{false}
+use mathlib.Core.List.{List, [], _∷_, map}
+use mathlib.Core.Logic.{inl, inr}
+use mathlib.Core.Path.{_≡_, refl, sym, _∙_, ap, subst}
+use Prim.Native.Nat.{ℕ, zero, suc, min, _+_, _<_, _≤_}
+use native.Mathlib.Omega.{arith}
+use lib.ListN.{length, getD, take, drop}
+use Rattle.std.specs.declared.option.Option.{Option}
+use Rattle.std.specs.declared.option.Option.the-variants.{Some, None}
+use Rattle.std.specs.Options.{isSome, mapped}
+use Rattle.std.specs.shelf.Maps.{nth}
+use Rattle.std.proofs.shelf.Lists.{length-map, length-take, length-drop, getD-map, getD-past}
+use Rattle.std.proofs.shelf.Maps.{nth-getD, nth-past}
+use Rattle.std.proofs.shelf.Tests.{cases-lt}
+use Rattle.game.specs.declared.side.Side.{Side}
+use Rattle.game.specs.Positions.{Position, blank, position, degree, Leads}
+use Rattle.game.specs.Laws.{Bounded, Rises, KeepsKind, Lawful}
+use Rattle.game.proofs.Answered.{leads-from}
+use Rattle.games.specs.declared.row.Row.{Row}
+use Rattle.games.specs.Rows.{sideIn, spanOf, positionOf, meaningOf, blankRow, rowOf, rowsRefusal}
+use Rattle.games.proofs.Faults.{Sound, AllSound, all-sound}
+
+nth-map : {X Y : Type 0} (f : X → Y) (xs : List X) (k : ℕ) → nth (map f xs) k ≡ mapped f (nth xs k)
+nth-map f [] k = refl
+nth-map f (x ∷ xs) zero = refl
+nth-map f (x ∷ xs) (suc k) = nth-map f xs k
+
+mapped-mapped : {X Y Z : Type 0} (f : X → Y) (g : Y → Z) (o : Option X) → mapped (λ x. g (f x)) o ≡ mapped g (mapped f o)
+mapped-mapped f g None = refl
+mapped-mapped f g (Some x) = refl
+
+getD-nth : {X : Type 0} (xs : List X) (k : ℕ) (d x : X) → nth xs k ≡ Some x → getD xs k d ≡ x
+getD-nth xs k d x e = grind (arith, nth-getD, nth-past, getD-past)
+
+getD-none : {X : Type 0} (xs : List X) (k : ℕ) (d : X) → nth xs k ≡ None → getD xs k d ≡ d
+getD-none xs k d e = grind (arith, nth-getD, nth-past, getD-past)
+
+within : {X : Type 0} (xs : List X) (k : ℕ) (x : X) → Some x ≡ nth xs k → k < length xs
+within xs k x e = elim (cases-lt k (length xs)) [ inl h ↦ h | inr h ↦ let n = nth-past xs k h in let z : _≡_ {A = ℕ} 0 1 = cc in absurd (omega arith) ]
+
+pub meaning-length : (rs : List Row) (ts : List ℕ) → length (meaningOf rs ts) ≡ length rs
+meaning-length rs ts = length-map rs (positionOf ts)
+
+pub meaning-read : (rs : List Row) (ts : List ℕ) (u : ℕ) → u < length rs → position (meaningOf rs ts) u ≡ positionOf ts (rowOf rs u)
+meaning-read rs ts u h = getD-map (positionOf ts) rs u blankRow blank h
+
+-- an answer is read off the row, if it is there
+module _ (rs : List Row) (ts : List ℕ) (p : ℕ) (o : Option Row) (here : o ≡ nth rs p) where
+  there : mapped (positionOf ts) o ≡ nth (meaningOf rs ts) p
+  there = ap (mapped (positionOf ts)) here ∙ sym (nth-map (positionOf ts) rs p)
+
+  pub row-answer : {X : Type 0} (f : Position → X) → mapped (λ r. f (positionOf ts r)) o ≡ mapped f (nth (meaningOf rs ts) p)
+  row-answer f = mapped-mapped (positionOf ts) f o ∙ ap (mapped f) there
+
+module _ (rs : List Row) (ts : List ℕ) (p : ℕ) where
+  pub row-target : (r : Row) → Some r ≡ nth rs p → (k : ℕ) → nth (spanOf ts r) k ≡ nth (position (meaningOf rs ts) p .moves) k
+  row-target r e k = ap (λ (q : Position). nth (q .moves) k) (sym (getD-nth (meaningOf rs ts) p blank (positionOf ts r) (sym (there rs ts p (Some r) e))))
+
+  pub no-target : None ≡ nth rs p → (k : ℕ) → None ≡ nth (position (meaningOf rs ts) p .moves) k
+  no-target e k = ap (λ (q : Position). nth (q .moves) k) (sym (getD-none (meaningOf rs ts) p blank (sym (there rs ts p None e))))
+
+unfound : {F : Type 0} (o : Option F) → isSome o ≡ false → o ≡ None
+unfound None e = refl
+unfound (Some x) e = let z : _≡_ {A = ℕ} 0 1 = cc in absurd (omega arith)
+
+module _ (rs : List Row) (ts : List ℕ) (none : isSome (rowsRefusal rs ts) ≡ false) where
+  sound : AllSound rs ts
+  sound = all-sound rs ts (unfound (rowsRefusal rs ts) none)
+
+  -- a row's count is the number of its moves
+  pub row-degree : (p : ℕ) (r : Row) → Some r ≡ nth rs p → r .count ≡ length (spanOf ts r)
+  row-degree p r e =
+      let h = sound .rows p (within rs p r e) .span in
+      let s : rowOf rs p ≡ r = getD-nth rs p blankRow r (sym e) in
+      let w : r .first + r .count ≤ length ts = subst (λ (x : Row). x .first + x .count ≤ length ts) s h in
+      simp (length-take, length-drop) (omega arith)
+
+  -- a move of the game is a target of a row
+  record Move (u k w : ℕ) : Type 0 where
+    here : u < length rs
+    from : position (meaningOf rs ts) u ≡ positionOf ts (rowOf rs u)
+    within-span : k < length (spanOf ts (rowOf rs u))
+    there : w < length rs
+    to : position (meaningOf rs ts) w ≡ positionOf ts (rowOf rs w)
+    target : getD (spanOf ts (rowOf rs u)) k 0 ≡ w
+
+  move : (u k w : ℕ) → Leads (meaningOf rs ts) u k w → Move u k w
+  move u k w l =
+      let n = meaning-length rs ts in
+      let b = leads-from (meaningOf rs ts) u k w l in
+      let h : u < length rs = omega arith in
+      let from = meaning-read rs ts u h in
+      let span : k < length (spanOf ts (rowOf rs u)) = subst (λ (q : Position). k < length (q .moves)) from (l .there) in
+      let target : getD (spanOf ts (rowOf rs u)) k 0 ≡ w = ap (λ (q : Position). getD (q .moves) k 0) (sym from) ∙ l .to in
+      let inside = sound .rows u h .inside k span in
+      let t : w < length rs = omega arith in
+      record { here = h; from = from; within-span = span; there = t; to = meaning-read rs ts w t; target = target }
+
+  pub lawful : Lawful (meaningOf rs ts)
+  lawful =
+      let n = meaning-length rs ts in
+      let s = sound in
+      record {
+        bounded = record {
+          some = omega (arith, s .some);
+          few = omega (arith, s .few);
+          levels = λ u h. let b : u < length rs = omega arith in let e = ap (λ (q : Position). q .level) (meaning-read rs ts u b) in let l = s .rows u b .level in omega arith;
+          degrees = λ u h.
+              let b : u < length rs = omega arith in
+              let e = ap (λ (q : Position). length (q .moves)) (meaning-read rs ts u b) in
+              let m = length-take (rowOf rs u .count) (drop (rowOf rs u .first) ts) in
+              let l = s .rows u b .count in
+              omega arith;
+          targets = λ u k w l. let m = move u k w l in omega (arith, m .there);
+        };
+        rises = λ u k w l.
+            let m = move u k w l in
+            let r = s .rows u (m .here) .rises k (m .within-span) in
+            let a = ap (λ (q : Position). q .level) (m .from) in
+            let b = ap (λ (q : Position). q .level) (m .to) in
+            let t = ap (λ (x : ℕ). rowOf rs x .level) (m .target) in
+            omega arith;
+        keeps = λ u k w l e.
+            let m = move u k w l in
+            let a = ap (λ (q : Position). q .level) (m .from) in
+            let b = ap (λ (q : Position). q .level) (m .to) in
+            let t = ap (λ (x : ℕ). rowOf rs x .level) (m .target) in
+            let same = s .rows u (m .here) .keeps k (m .within-span) (sym a ∙ e ∙ b ∙ sym t) in
+            ap (λ (q : Position). q .kind) (m .from) ∙ ap sideIn (same ∙ ap (λ (x : ℕ). rowOf rs x .kind) (m .target)) ∙ sym (ap (λ (q : Position). q .kind) (m .to));
+      }

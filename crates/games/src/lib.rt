@@ -1,0 +1,4 @@
+// Makes of games.
+pub mod row;
+pub mod rows;
+mod spans;

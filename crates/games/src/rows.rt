@@ -1,0 +1,106 @@
+// Row games: a game that is read off a list of rows and a list of targets.
+ghost use mathlib.Core.Bool.{false};
+ghost use mathlib.Core.Path.{_≡_};
+ghost use Rattle.std.specs.declared.option.Option.the-variants.{Some, None};
+ghost use Rattle.std.specs.declared.result.Result.the-variants.{Ok, Err};
+ghost use Rattle.std.specs.Options.{isSome};
+ghost use Rattle.std.specs.Of.Vec.{vec-items};
+ghost use Rattle.std.specs.shelf.Maps.{nth};
+ghost use Rattle.games.specs.Rows.{rowsRefusal, meaningOf, tells};
+use crate::row::Row;
+use crate::row::RowsFault;
+use crate::spans::row_at;
+use crate::spans::rows_fault;
+use crate::spans::side_in;
+use crate::spans::target_at;
+use game::arena::Game;
+use game::side::Side;
+
+// A game made of the two lists, which it owns. They are known to have no fault.
+#[derive(Drop)]
+pub struct Rows {
+    rows: Vec<Row>,
+    targets: Vec<u16>,
+    ghost sound: { isSome (rowsRefusal (vec-items rows) (vec-items targets)) ≡ false },
+}
+
+// The two lists as they were handed over, and why they make no game.
+#[derive(Drop)]
+pub struct RowsRefused {
+    pub fault: RowsFault,
+    pub rows: Vec<Row>,
+    pub targets: Vec<u16>,
+}
+
+impl Rows {
+    // The game that the lists make, or the lists again with their first fault.
+    pub fn new(rows: Vec<Row>, targets: Vec<u16>) -> Result<Rows, RowsRefused>
+        ensures { λ r. ⌜ elim r [ Ok g ↦ (rowsRefusal (vec-items rows) (vec-items targets) ≡ None) × ((g .rows ≡ rows) × (g .targets ≡ targets)) | Err e ↦ (rowsRefusal (vec-items rows) (vec-items targets) ≡ Some (tells (e .fault))) × ((e .rows ≡ rows) × (e .targets ≡ targets)) ] ⌝ }
+    {
+        match rows_fault(&rows, &targets) {
+            Ok(()) => Ok(Rows { rows, targets }),
+            Err(fault) => Err(RowsRefused {
+                fault,
+                rows,
+                targets,
+            }),
+        }
+    }
+
+    fn row(&self, p: usize) -> Option<Row>
+        ensures { λ r. ⌜ r ≡ nth (vec-items (now (self .entry) .rows)) p ⌝ }
+    {
+        row_at(&self.rows, p)
+    }
+
+    // The lists that the game is made of.
+    pub fn into_lists(self) -> (Vec<Row>, Vec<u16>)
+        ensures { λ r. ⌜ (r .0 ≡ self .rows) × (r .1 ≡ self .targets) ⌝ }
+    {
+        let Rows { rows, targets } = self;
+        (rows, targets)
+    }
+}
+
+pub impl Game for Rows as RowsGame {
+    ghost meaning = { λ s. meaningOf (vec-items (s .rows)) (vec-items (s .targets)) };
+
+    fn count(&self) -> usize {
+        self.rows.len()
+    }
+
+    fn owner(&self, p: usize) -> Option<Side> {
+        match self.row(p) {
+            Some(row) => Some(side_in(row.owner)),
+            None => None,
+        }
+    }
+
+    fn level(&self, p: usize) -> Option<usize> {
+        match self.row(p) {
+            Some(row) => Some(row.level as usize),
+            None => None,
+        }
+    }
+
+    fn kind(&self, p: usize) -> Option<Side> {
+        match self.row(p) {
+            Some(row) => Some(side_in(row.kind)),
+            None => None,
+        }
+    }
+
+    fn degree(&self, p: usize) -> Option<usize> {
+        match self.row(p) {
+            Some(row) => Some(row.count as usize),
+            None => None,
+        }
+    }
+
+    fn target(&self, p: usize, k: usize) -> Option<usize> {
+        match self.row(p) {
+            Some(row) => target_at(&self.targets, row, k),
+            None => None,
+        }
+    }
+}

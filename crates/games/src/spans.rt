@@ -1,0 +1,110 @@
+// The rules of the two lists that make a row game.
+ghost use mathlib.Core.Bool.{true};
+ghost use mathlib.Core.Path.{_≡_};
+ghost use Prim.Native.Nat.{ℕ, _+_, _<_, _≤_};
+ghost use lib.ListN.{length};
+ghost use Rattle.std.specs.shelf.Maps.{nth};
+ghost use Rattle.game.specs.First.{allBelow};
+ghost use Rattle.games.specs.Rows.{sideIn, spanOf, spanFits, isInside, keepsLaw, isLawful, rowRefusal, rowsRefusal, told};
+use crate::row::Row;
+use crate::row::RowsFault;
+use game::side::Side;
+
+// The most rows that a game has.
+const MOST_ROWS: usize = 16384;
+
+// The side that a row of a game writes as `n`.
+pub(crate) fn side_in(n: u16) -> Side
+    ensures { λ r. ⌜ r ≡ sideIn n ⌝ }
+{
+    if n == 0 { Side::Green } else { Side::Red }
+}
+
+pub(crate) fn row_at(rows: &[Row], p: usize) -> Option<Row>
+    ensures { λ r. ⌜ r ≡ nth (now (rows .entry)) p ⌝ }
+{
+    if p < rows.len() { Some(rows[p]) } else { None }
+}
+
+// The target of move `k` of a row.
+pub(crate) fn target_at(targets: &[u16], row: Row, k: usize) -> Option<usize>
+    ensures { λ r. ⌜ r ≡ nth (spanOf (now (targets .entry)) row) k ⌝ }
+{
+    if k >= row.count as usize {
+        return None;
+    }
+    let i = row.first as usize + k;
+    if i >= targets.len() {
+        return None;
+    }
+    Some(targets[i] as usize)
+}
+
+fn span_fits(targets: &[u16], row: Row) -> bool
+    ensures { λ r. ⌜ r ≡ spanFits (now (targets .entry)) row ⌝ }
+{
+    row.first as usize + row.count as usize <= targets.len()
+}
+
+fn targets_inside(rows: &[Row], span: &[u16]) -> bool
+    ensures { λ r. ⌜ r ≡ allBelow (isInside (now (rows .entry)) (now (span .entry))) (length (now (span .entry))) ⌝ }
+{
+    for t in span {
+        if *t as usize >= rows.len() {
+            return false;
+        }
+    }
+    true
+}
+
+fn keeps_law(from: Row, to: Row) -> bool
+    ensures { λ r. ⌜ r ≡ keepsLaw from to ⌝ }
+{
+    from.level < to.level || from.level == to.level && from.kind == to.kind
+}
+
+fn moves_lawful(rows: &[Row], row: Row, span: &[u16]) -> bool
+    requires { ⌜ allBelow (isInside (now rows) (now span)) (length (now span)) ≡ true ⌝ }
+    ensures { λ r. ⌜ r ≡ allBelow (isLawful (now (rows .entry)) row (now (span .entry))) (length (now (span .entry))) ⌝ }
+{
+    for t in span {
+        if !keeps_law(row, rows[*t as usize]) {
+            return false;
+        }
+    }
+    true
+}
+
+// The fault of row `i`.
+fn row_fault(rows: &[Row], targets: &[u16], i: usize) -> Result<(), RowsFault>
+    requires { ⌜ i < length (now rows) ⌝ }
+    ensures { λ r. ⌜ told r ≡ rowRefusal (now (rows .entry)) (now (targets .entry)) i ⌝ }
+{
+    let row = rows[i];
+    if row.owner > 1 || row.kind > 1 || !span_fits(targets, row) {
+        return Err(RowsFault::Row(i));
+    }
+    let first = row.first as usize;
+    let end = first + row.count as usize;
+    let span = &targets[first..end];
+    if !targets_inside(rows, span) {
+        return Err(RowsFault::Row(i));
+    }
+    if row.level as usize >= rows.len() || !moves_lawful(rows, row, span) {
+        return Err(RowsFault::Law(i));
+    }
+    Ok(())
+}
+
+// Why the lists make no game, if they make none.
+pub(crate) fn rows_fault(rows: &[Row], targets: &[u16]) -> Result<(), RowsFault>
+    ensures { λ r. ⌜ told r ≡ rowsRefusal (now (rows .entry)) (now (targets .entry)) ⌝ }
+{
+    if rows.is_empty() || rows.len() > MOST_ROWS {
+        return Err(RowsFault::Count);
+    }
+    for i in 0..rows.len() {
+        row_fault(rows, targets, i)?;
+    }
+    Ok(())
+}
