@@ -1,12 +1,14 @@
 -- The check's value, as the loop comes to it, and what follows from it.
+use mathlib.Core.Bool.{true, false}
 use mathlib.Core.List.{List, []}
 use mathlib.Core.Path.{_≡_, sym, _∙_, ap}
 use Prim.Native.Nat.{ℕ, _<_, _≤_}
 use native.Mathlib.Omega.{arith}
+use lib.Dec.{eqb}
 use lib.ListN.{length}
 use Rattle.std.specs.declared.option.Option.{Option}
 use Rattle.std.specs.declared.option.Option.the-variants.{Some, None}
-use Rattle.std.proofs.shelf.Tests.{cond-true, cond-false, eq-eqb, ne-eqb}
+use Rattle.std.proofs.shelf.Tests.{cond-true, cond-false, eqb-true}
 use Rattle.game.specs.declared.sheet.Entry.{Entry}
 use Rattle.game.specs.Positions.{Position}
 use Rattle.game.specs.Laws.{Bounded, Rises, KeepsKind, Lawful}
@@ -18,18 +20,22 @@ use Rattle.game.proofs.Firsts.{first-found}
 use Rattle.game.proofs.Kept.{accepted-keeps, keeps-accepted}
 use Rattle.game.proofs.Settled.{settled, same-colours}
 
-module _ (ps : List Position) (es : List Entry) (n : ℕ) (count : n ≡ length ps) where
-  pub told-length : (length es ≡ n → ⊥) → Some (record { number = 11; values = [] }) ≡ checked ps es
-  told-length other = sym (cond-false _ _ _ (ne-eqb (length es) (length ps) (λ e. other (e ∙ sym count))))
+module _ (ps : List Position) (es : List Entry) where
+  pub told-length : false ≡ eqb (length es) (length ps) → Some (record { number = 11; values = [] }) ≡ checked ps es
+  told-length other = sym (cond-false _ _ _ (sym other))
 
-  module _ (size : length es ≡ n) (v : ℕ) (clear : firstBelow (refusedBy ps es) v ≡ None) where
+  module _ (sized : true ≡ eqb (length es) (length ps)) (v : ℕ) (clear : firstBelow (refusedBy ps es) v ≡ None) where
+    size : length es ≡ length ps
+    size = eqb-true (length es) (length ps) (sym sized)
+
     pub told-found : (x : Refused) → Some x ≡ refusedBy ps es v → v < length es → Some x ≡ checked ps es
-    told-found x e h = sym (cond-true _ _ _ (eq-eqb (length es) (length ps) (size ∙ count)) ∙ first-found (refusedBy ps es) v (length ps) x clear (sym e) (omega arith))
+    told-found x e h = let s = size in sym (cond-true _ _ _ (sym sized) ∙ first-found (refusedBy ps es) v (length ps) x clear (sym e) (omega arith))
 
     pub told-none : v ≤ length es → length es ≤ v → None ≡ checked ps es
     told-none a b =
+        let s = size in
         let end : length ps ≡ v = omega arith in
-        sym (cond-true _ _ _ (eq-eqb (length es) (length ps) (size ∙ count)) ∙ ap (firstBelow (refusedBy ps es)) end ∙ clear)
+        sym (cond-true _ _ _ (sym sized) ∙ ap (firstBelow (refusedBy ps es)) end ∙ clear)
 
 -- what follows from the value
 module _ (ps : List Position) (bounded : Bounded ps) (rises : Rises ps) (keeps : KeepsKind ps) (es : List Entry) (answer : Option Refused) (is : answer ≡ checked ps es) where

@@ -2,6 +2,7 @@
 ghost use mathlib.Core.Bool.{true};
 ghost use mathlib.Core.Path.{_≡_};
 ghost use Prim.Native.Nat.{ℕ, _<_};
+ghost use lib.Dec.{eqb};
 ghost use lib.ListN.{length};
 ghost use Rattle.std.specs.declared.option.Option.the-variants.{None};
 ghost use Rattle.std.specs.Options.{mapped};
@@ -167,6 +168,13 @@ fn check_entry<G: Game>(game: &G, sheet: &[Entry], v: usize, entry: Entry) -> Re
     }
 }
 
+// Whether a sheet has one entry for each position of a game.
+pub fn is_sized<G: Game>(game: &G, sheet: &[Entry]) -> bool
+    ensures { λ r. ⌜ r ≡ eqb (length (now (sheet .entry))) (length (G·Game .meaning (now (game .entry)))) ⌝ }
+{
+    sheet.len() == game.count()
+}
+
 // Accepts a sheet, or says which rule it breaks first: its length, then the entries from position 0 upwards.
 pub fn check<G: Game>(game: &G, sheet: &[Entry]) -> Result<(), Refusal>
     ensures first_broken { λ r. ⌜ told r ≡ checked (G·Game .meaning (now (game .entry))) (now (sheet .entry)) ⌝ }
@@ -174,7 +182,7 @@ pub fn check<G: Game>(game: &G, sheet: &[Entry]) -> Result<(), Refusal>
     ensures colours_win { λ r. ⌜ (told r ≡ None → Settles (G·Game .meaning (now (game .entry))) (now (sheet .entry))) ⌝ }
     ensures colours_unique { λ r. ⌜ (told r ≡ None → UniqueColours (G·Game .meaning (now (game .entry))) (now (sheet .entry))) ⌝ }
 {
-    if sheet.len() != game.count() {
+    if !is_sized(game, sheet) {
         return Err(Refusal::Length);
     }
     for (v, entry) in sheet.iter().enumerate() {

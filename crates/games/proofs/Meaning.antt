@@ -8,27 +8,24 @@ use native.Mathlib.Omega.{arith}
 use lib.ListN.{length, getD, take, drop}
 use Rattle.std.specs.declared.option.Option.{Option}
 use Rattle.std.specs.declared.option.Option.the-variants.{Some, None}
-use Rattle.std.specs.Options.{isSome, mapped}
+use Rattle.std.specs.Options.{Cases, isSome, mapped}
 use Rattle.std.specs.shelf.Maps.{nth}
 use Rattle.std.proofs.shelf.Lists.{length-map, length-take, length-drop, getD-map, getD-past}
 use Rattle.std.proofs.shelf.Maps.{nth-getD, nth-past}
 use Rattle.std.proofs.shelf.Tests.{cases-lt}
 use Rattle.game.specs.declared.side.Side.{Side}
-use Rattle.game.specs.Positions.{Position, blank, position, degree, Leads}
+use Rattle.game.specs.Positions.{Position, blank, position, degree, targetAt, Leads}
 use Rattle.game.specs.Laws.{Bounded, Rises, KeepsKind, Lawful}
 use Rattle.game.proofs.Answered.{leads-from}
 use Rattle.games.specs.declared.row.Row.{Row}
 use Rattle.games.specs.Rows.{sideIn, spanOf, positionOf, meaningOf, blankRow, rowOf, rowsRefusal}
+use Rattle.games.specs.RowReads.{movesIn, ReadOff}
 use Rattle.games.proofs.Faults.{Sound, AllSound, all-sound}
 
 nth-map : {X Y : Type 0} (f : X → Y) (xs : List X) (k : ℕ) → nth (map f xs) k ≡ mapped f (nth xs k)
 nth-map f [] k = refl
 nth-map f (x ∷ xs) zero = refl
 nth-map f (x ∷ xs) (suc k) = nth-map f xs k
-
-mapped-mapped : {X Y Z : Type 0} (f : X → Y) (g : Y → Z) (o : Option X) → mapped (λ x. g (f x)) o ≡ mapped g (mapped f o)
-mapped-mapped f g None = refl
-mapped-mapped f g (Some x) = refl
 
 getD-nth : {X : Type 0} (xs : List X) (k : ℕ) (d x : X) → nth xs k ≡ Some x → getD xs k d ≡ x
 getD-nth xs k d x e = grind (arith, nth-getD, nth-past, getD-past)
@@ -45,21 +42,6 @@ meaning-length rs ts = length-map rs (positionOf ts)
 pub meaning-read : (rs : List Row) (ts : List ℕ) (u : ℕ) → u < length rs → position (meaningOf rs ts) u ≡ positionOf ts (rowOf rs u)
 meaning-read rs ts u h = getD-map (positionOf ts) rs u blankRow blank h
 
--- an answer is read off the row, if it is there
-module _ (rs : List Row) (ts : List ℕ) (p : ℕ) (o : Option Row) (here : o ≡ nth rs p) where
-  there : mapped (positionOf ts) o ≡ nth (meaningOf rs ts) p
-  there = ap (mapped (positionOf ts)) here ∙ sym (nth-map (positionOf ts) rs p)
-
-  pub row-answer : {X : Type 0} (f : Position → X) → mapped (λ r. f (positionOf ts r)) o ≡ mapped f (nth (meaningOf rs ts) p)
-  row-answer f = mapped-mapped (positionOf ts) f o ∙ ap (mapped f) there
-
-module _ (rs : List Row) (ts : List ℕ) (p : ℕ) where
-  pub row-target : (r : Row) → Some r ≡ nth rs p → (k : ℕ) → nth (spanOf ts r) k ≡ nth (position (meaningOf rs ts) p .moves) k
-  row-target r e k = ap (λ (q : Position). nth (q .moves) k) (sym (getD-nth (meaningOf rs ts) p blank (positionOf ts r) (sym (there rs ts p (Some r) e))))
-
-  pub no-target : None ≡ nth rs p → (k : ℕ) → None ≡ nth (position (meaningOf rs ts) p .moves) k
-  no-target e k = ap (λ (q : Position). nth (q .moves) k) (sym (getD-none (meaningOf rs ts) p blank (sym (there rs ts p None e))))
-
 unfound : {F : Type 0} (o : Option F) → isSome o ≡ false → o ≡ None
 unfound None e = refl
 unfound (Some x) e = let z : _≡_ {A = ℕ} 0 1 = cc in absurd (omega arith)
@@ -68,13 +50,25 @@ module _ (rs : List Row) (ts : List ℕ) (none : isSome (rowsRefusal rs ts) ≡ 
   sound : AllSound rs ts
   sound = all-sound rs ts (unfound (rowsRefusal rs ts) none)
 
-  -- a row's count is the number of its moves
-  pub row-degree : (p : ℕ) (r : Row) → Some r ≡ nth rs p → r .count ≡ length (spanOf ts r)
-  row-degree p r e =
+  -- how a position is read off its row, if there is one
+  module _ (p : ℕ) (o : Option Row) (here : o ≡ nth rs p) where
+    there : mapped (positionOf ts) o ≡ nth (meaningOf rs ts) p
+    there = ap (mapped (positionOf ts)) here ∙ sym (nth-map (positionOf ts) rs p)
+
+  targets-read : (p : ℕ) (o : Option Row) → o ≡ nth rs p → (k : ℕ) → nth (movesIn ts o) k ≡ targetAt (meaningOf rs ts) p k
+  targets-read p None e k = ap (λ (q : Position). nth (q .moves) k) (sym (getD-none (meaningOf rs ts) p blank (sym (there p None e))))
+  targets-read p (Some r) e k = ap (λ (q : Position). nth (q .moves) k) (sym (getD-nth (meaningOf rs ts) p blank (positionOf ts r) (sym (there p (Some r) e))))
+
+  count-read : (p : ℕ) (o : Option Row) → o ≡ nth rs p → Cases o (Unit {0}) (λ r. r .count ≡ length (spanOf ts r))
+  count-read p None e = tt
+  count-read p (Some r) e =
       let h = sound .rows p (within rs p r e) .span in
       let s : rowOf rs p ≡ r = getD-nth rs p blankRow r (sym e) in
       let w : r .first + r .count ≤ length ts = subst (λ (x : Row). x .first + x .count ≤ length ts) s h in
       simp (length-take, length-drop) (omega arith)
+
+  pub read-off : (p : ℕ) (o : Option Row) → o ≡ nth rs p → ReadOff rs ts p o
+  read-off p o e = record { position = there p o e; targets = targets-read p o e; count = count-read p o e }
 
   -- a move of the game is a target of a row
   record Move (u k w : ℕ) : Type 0 where

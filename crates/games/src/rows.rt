@@ -2,11 +2,11 @@
 ghost use mathlib.Core.Bool.{false};
 ghost use mathlib.Core.Path.{_≡_};
 ghost use Rattle.std.specs.declared.option.Option.the-variants.{Some, None};
-ghost use Rattle.std.specs.declared.result.Result.the-variants.{Ok, Err};
 ghost use Rattle.std.specs.Options.{isSome};
+ghost use Rattle.std.specs.Results.{Cases};
 ghost use Rattle.std.specs.Of.Vec.{vec-items};
-ghost use Rattle.std.specs.shelf.Maps.{nth};
 ghost use Rattle.games.specs.Rows.{rowsRefusal, meaningOf, tells};
+ghost use Rattle.games.specs.RowReads.{ReadOff};
 use crate::row::Row;
 use crate::row::RowsFault;
 use crate::spans::row_at;
@@ -35,7 +35,8 @@ pub struct RowsRefused {
 impl Rows {
     // The game that the lists make, or the lists again with their first fault.
     pub fn new(rows: Vec<Row>, targets: Vec<u16>) -> Result<Rows, RowsRefused>
-        ensures { λ r. ⌜ elim r [ Ok g ↦ (rowsRefusal (vec-items rows) (vec-items targets) ≡ None) × ((g .rows ≡ rows) × (g .targets ≡ targets)) | Err e ↦ (rowsRefusal (vec-items rows) (vec-items targets) ≡ Some (tells (e .fault))) × ((e .rows ≡ rows) × (e .targets ≡ targets)) ] ⌝ }
+        ensures refusal { λ r. ⌜ Cases r (λ _. rowsRefusal (vec-items rows) (vec-items targets) ≡ None) (λ e. rowsRefusal (vec-items rows) (vec-items targets) ≡ Some (tells (e .fault))) ⌝ }
+        ensures lists { λ r. ⌜ Cases r (λ g. (g .rows ≡ rows) × (g .targets ≡ targets)) (λ e. (e .rows ≡ rows) × (e .targets ≡ targets)) ⌝ }
     {
         match rows_fault(&rows, &targets) {
             Ok(()) => Ok(Rows { rows, targets }),
@@ -47,8 +48,9 @@ impl Rows {
         }
     }
 
+    // Row `p`, and how the position is read off it.
     fn row(&self, p: usize) -> Option<Row>
-        ensures { λ r. ⌜ r ≡ nth (vec-items (now (self .entry) .rows)) p ⌝ }
+        ensures { λ r. ⌜ ReadOff (vec-items (now (self .entry) .rows)) (vec-items (now (self .entry) .targets)) p r ⌝ }
     {
         row_at(&self.rows, p)
     }

@@ -2,6 +2,7 @@
 ghost use mathlib.Core.Bool.{true};
 ghost use mathlib.Core.Path.{_≡_};
 ghost use Prim.Native.Nat.{ℕ, _+_, _<_, _≤_};
+ghost use lib.Dec.{ltb};
 ghost use lib.ListN.{length};
 ghost use Rattle.std.specs.shelf.Maps.{nth};
 ghost use Rattle.game.specs.First.{allBelow};
@@ -46,11 +47,17 @@ fn span_fits(targets: &[u16], row: Row) -> bool
     row.first as usize + row.count as usize <= targets.len()
 }
 
+fn is_row(rows: &[Row], target: u16) -> bool
+    ensures { λ r. ⌜ r ≡ ltb target (length (now (rows .entry))) ⌝ }
+{
+    (target as usize) < rows.len()
+}
+
 fn targets_inside(rows: &[Row], span: &[u16]) -> bool
     ensures { λ r. ⌜ r ≡ allBelow (isInside (now (rows .entry)) (now (span .entry))) (length (now (span .entry))) ⌝ }
 {
     for t in span {
-        if *t as usize >= rows.len() {
+        if !is_row(rows, *t) {
             return false;
         }
     }

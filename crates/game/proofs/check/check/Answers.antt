@@ -14,13 +14,13 @@ loop-v-holds g c = first-none _
 pub loop-v-again : need.loop-v-again
 loop-v-again g c = first-more _ _ (c .loop-v .inv) (sym (c .in-Continue-check-entry .ensures tt))
 
-pub returns-then-sheet-count : need.returns-then-sheet-count
-returns-then-sheet-count g c =
+pub returns-then-not-is-sized : need.returns-then-not-is-sized
+returns-then-not-is-sized g c =
     let x = c .args .game .now in
     let ps = g .G·Game .meaning x in
     let es = c .args .sheet .now in
     let met = g .G·Game·met in
-    let value = told-length ps es _ (c .count .ensures) (c .if-sheet-count .taken) in
+    let value = told-length ps es (c .if-not-is-sized .ensures tt) in
     record {
       first-broken = value;
       accepts-keeping = accepts ps (met .bounded x) (met .rises x) (met .keeps x) es _ value;
@@ -37,7 +37,7 @@ returns-in-Break-check-entry g c =
     let out = err-from-errBy (c .from-residual .result) (c .from-residual .ensures .1) in
     let value : told (c .from-residual .result) ≡ checked ps es =
     ap told (out .1) ∙ ap (λ (e : Refusal). Some (tells e)) (out .2)
-    ∙ told-found ps es _ (c .count .ensures) (c .if-sheet-count .left) _ (c .loop-v .inv) _ (c .in-Break-check-entry .ensures tt) (c .loop-v-test .taken) in
+    ∙ told-found ps es (c .if-not-is-sized .ensures tt) _ (c .loop-v .inv) _ (c .in-Break-check-entry .ensures tt) (c .loop-v-test .taken) in
     record {
       first-broken = value;
       accepts-keeping = accepts ps (met .bounded x) (met .rises x) (met .keeps x) es _ value;
@@ -51,7 +51,7 @@ returns g c =
     let ps = g .G·Game .meaning x in
     let es = c .args .sheet .now in
     let met = g .G·Game·met in
-    let value = told-none ps es _ (c .count .ensures) (c .if-sheet-count .left) _ (c .loop-v .inv) (c .loop-v .kept .v-end) (c .loop-v-test .left) in
+    let value = told-none ps es (c .if-not-is-sized .ensures tt) _ (c .loop-v .inv) (c .loop-v .kept .v-end) (c .loop-v-test .left) in
     record {
       first-broken = value;
       accepts-keeping = accepts ps (met .bounded x) (met .rises x) (met .keeps x) es _ value;
