@@ -24,7 +24,7 @@ fn entry(colour: u8, choice: u16, rank: u16) -> Entry {
 
 // Four positions. From 0 Green may go round with Red by way of 1, or leave for 2, where Red goes
 // round alone; at 3 Green goes round alone.
-pub fn four_rows(heap: Global) -> Result<(Vec<Row>, Vec<u16>), AllocError> {
+pub(crate) fn four_rows(heap: Global) -> Result<(Vec<Row>, Vec<u16>), AllocError> {
     let rows = vec![in heap;
         row(0, 0, 1, 0, 2),
         row(1, 0, 1, 2, 1),
@@ -36,7 +36,7 @@ pub fn four_rows(heap: Global) -> Result<(Vec<Row>, Vec<u16>), AllocError> {
 }
 
 // Green wins from 0, by move 1, from 1 and from 2; Red wins from 3.
-pub fn right_sheet() -> [Entry; 4] {
+pub(crate) fn right_sheet() -> [Entry; 4] {
     [
         entry(0, 1, 1),
         entry(0, 0, 2),
@@ -46,7 +46,7 @@ pub fn right_sheet() -> [Entry; 4] {
 }
 
 // The right sheet with another entry at `v`.
-pub fn sheet_with(v: usize, entry: Entry) -> [Entry; 4] {
+pub(crate) fn sheet_with(v: usize, entry: Entry) -> [Entry; 4] {
     let mut sheet = right_sheet();
     if v < sheet.len() {
         sheet[v] = entry;
@@ -55,7 +55,7 @@ pub fn sheet_with(v: usize, entry: Entry) -> [Entry; 4] {
 }
 
 // Entries that break the sheet: the position, what is wrong, and the entry.
-pub fn damage() -> [(usize, &'static str, Entry); 5] {
+pub(crate) fn damage() -> [(usize, &'static str, Entry); 5] {
     [
         (3, "no side's colour at 3", entry(7, 0, 0)),
         (0, "no such move at 0", entry(0, 2, 1)),

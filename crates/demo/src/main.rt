@@ -7,11 +7,11 @@ use example::four_rows;
 use example::right_sheet;
 use example::sheet_with;
 use game::check::check;
+use game::refusal::RefusalDisplay;
 use game::sheet::Entry;
 use games::rows::Rows;
 use games::rows::RowsGame;
 use show::show_game;
-use show::show_refusal;
 use show::show_winners;
 use std::error::AnyError;
 
@@ -32,7 +32,7 @@ fn show_checks(rt: &LibcRuntime, game: &Rows) -> Result<(), AnyError> {
     let sheet = right_sheet();
     match check(game, &sheet) {
         Ok(()) => show_winners(rt, game, &sheet)?,
-        Err(refusal) => show_refusal(rt, refusal)?,
+        Err(refusal) => println!(rt, "{refusal}")?,
     }
     println!(rt, "Damaged sheets are refused:")?;
     show_damage(rt, game, "the last entry left out", &sheet[0..3])?;
@@ -46,7 +46,7 @@ fn show_damage(rt: &LibcRuntime, game: &Rows, name: &str, sheet: &[Entry]) -> Re
     print!(rt, "  {name}: ")?;
     match check(game, sheet) {
         Ok(()) => println!(rt, "accepted")?,
-        Err(refusal) => show_refusal(rt, refusal)?,
+        Err(refusal) => println!(rt, "{refusal}")?,
     }
     Ok(())
 }

@@ -1,6 +1,5 @@
 // How the tour prints games, winners and refusals.
 use game::arena::Game;
-use game::refusal::Refusal;
 use game::sheet::Entry;
 use game::side::Side;
 use game::side::SideDebug;
@@ -8,7 +7,7 @@ use game::side::SidePartialEq;
 use std::io;
 
 // A game, position by position.
-pub fn show_game<G: Game>(rt: &LibcRuntime, game: &G) -> io::Result<()> {
+pub(crate) fn show_game<G: Game>(rt: &LibcRuntime, game: &G) -> io::Result<()> {
     let count = game.count();
     println!(rt, "A game of {count} positions:")?;
     for v in 0..count {
@@ -37,7 +36,7 @@ fn show_moves<G: Game>(rt: &LibcRuntime, game: &G, v: usize) -> io::Result<()> {
 }
 
 // Who wins from each position by an accepted sheet, and how.
-pub fn show_winners<G: Game>(rt: &LibcRuntime, game: &G, sheet: &[Entry]) -> io::Result<()> {
+pub(crate) fn show_winners<G: Game>(rt: &LibcRuntime, game: &G, sheet: &[Entry]) -> io::Result<()> {
     println!(rt, "Its sheet is accepted, so it says who wins:")?;
     for (v, entry) in sheet.iter().enumerate() {
         let Some(winner) = Side::from_number(entry.colour) else {
@@ -55,13 +54,4 @@ pub fn show_winners<G: Game>(rt: &LibcRuntime, game: &G, sheet: &[Entry]) -> io:
         }
     }
     Ok(())
-}
-
-// Why a sheet is refused.
-pub fn show_refusal(rt: &LibcRuntime, refusal: Refusal) -> io::Result<()> {
-    let number = refusal.number();
-    match refusal.position() {
-        Some(v) => println!(rt, "refused {number} at position {v}"),
-        None => println!(rt, "refused {number}"),
-    }
 }

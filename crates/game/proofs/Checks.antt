@@ -1,6 +1,6 @@
 -- The check's value, as the loop comes to it, and what follows from it.
 use mathlib.Core.Bool.{true, false}
-use mathlib.Core.List.{List, []}
+use mathlib.Core.List.{List}
 use mathlib.Core.Path.{_≡_, sym, _∙_, ap}
 use Prim.Native.Nat.{ℕ, _<_, _≤_}
 use native.Mathlib.Omega.{arith}
@@ -11,9 +11,9 @@ use Rattle.std.specs.declared.option.Option.the-variants.{Some, None}
 use Rattle.std.proofs.shelf.Tests.{cond-true, cond-false, eqb-true}
 use Rattle.game.specs.declared.sheet.Entry.{Entry}
 use Rattle.game.specs.Positions.{Position}
-use Rattle.game.specs.Laws.{Bounded, Rises, KeepsKind, Lawful}
+use Rattle.game.specs.Laws.{Bounded, Monotone, KeepsKind, Lawful}
 use Rattle.game.specs.Sheets.{Settles}
-use Rattle.game.specs.Refusals.{Refused}
+use Rattle.game.specs.Refusals.{Refused, refused}
 use Rattle.game.specs.First.{firstBelow}
 use Rattle.game.specs.Checking.{checked, refusedBy, AcceptsKeeping, UniqueColours}
 use Rattle.game.proofs.Firsts.{first-found}
@@ -21,7 +21,7 @@ use Rattle.game.proofs.Kept.{accepted-keeps, keeps-accepted}
 use Rattle.game.proofs.Settled.{settled, same-colours}
 
 module _ (ps : List Position) (es : List Entry) where
-  pub told-length : false ≡ eqb (length es) (length ps) → Some (record { number = 11; values = [] }) ≡ checked ps es
+  pub told-length : false ≡ eqb (length es) (length ps) → Some (refused 11) ≡ checked ps es
   told-length other = sym (cond-false _ _ _ (sym other))
 
   module _ (sized : true ≡ eqb (length es) (length ps)) (v : ℕ) (clear : firstBelow (refusedBy ps es) v ≡ None) where
@@ -38,12 +38,12 @@ module _ (ps : List Position) (es : List Entry) where
         sym (cond-true _ _ _ (sym sized) ∙ ap (firstBelow (refusedBy ps es)) end ∙ clear)
 
 -- what follows from the value
-module _ (ps : List Position) (bounded : Bounded ps) (rises : Rises ps) (keeps : KeepsKind ps) (es : List Entry) (answer : Option Refused) (is : answer ≡ checked ps es) where
+module _ (ps : List Position) (bounded : Bounded ps) (monotone : Monotone ps) (keeps : KeepsKind ps) (es : List Entry) (answer : Option Refused) (is : answer ≡ checked ps es) where
   lawful : Lawful ps
-  lawful = record { bounded = bounded; rises = rises; keeps = keeps }
+  lawful = record { bounded = bounded; monotone = monotone; keeps-kind = keeps }
 
   pub accepts : AcceptsKeeping ps es answer
-  accepts = record { keeps = λ n. accepted-keeps ps es (sym is ∙ n); accepts = λ k. is ∙ keeps-accepted ps es k }
+  accepts = record { sound = λ n. accepted-keeps ps es (sym is ∙ n); complete = λ k. is ∙ keeps-accepted ps es k }
 
   pub wins : answer ≡ None → Settles ps es
   wins n = settled ps lawful es (accepted-keeps ps es (sym is ∙ n))

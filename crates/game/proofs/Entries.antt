@@ -17,14 +17,14 @@ use Rattle.game.specs.Sheets.{entryOf}
 use Rattle.game.specs.Refusals.{Refused, refusedAt}
 use Rattle.game.specs.Checking.{choiceFits, eachCounting, keepsColour, rankFits, rankFalls, firstBroken, brokenFor, brokenBy, refusedBy}
 
--- the rules at v, by tests that are known of what is read there
-pub broken-is : (ps : List Position) (es : List Entry) (v : ℕ) (c : Side) (own home : Bool) (n : ℕ)
-    → own ≡ same c (position ps v .owner) → home ≡ same c (position ps v .kind) → n ≡ degree ps v
+-- the rules at v, by tests of what is read there: its entry e, and how its owner and kind compare with the colour c
+pub broken-is : (ps : List Position) (es : List Entry) (v : ℕ) (e : Entry) → e ≡ entryOf es v
+    → (c : Side) (own alike : Bool) (n : ℕ) → own ≡ same c (position ps v .owner) → alike ≡ same c (position ps v .kind) → n ≡ degree ps v
     → (choice colour rank falls : Bool)
-    → choice ≡ choiceFits own (entryOf es v .choice) n
+    → choice ≡ choiceFits own (e .choice) n
     → colour ≡ eachCounting own (entryOf es v .choice) n (keepsColour ps es v)
-    → rank ≡ rankFits home (entryOf es v .rank)
-    → falls ≡ (home || eachCounting own (entryOf es v .choice) n (rankFalls ps es v))
+    → rank ≡ rankFits alike (e .rank)
+    → falls ≡ (alike || eachCounting own (entryOf es v .choice) n (rankFalls ps es v))
     → mapped (refusedAt v) (firstBroken choice colour rank falls) ≡ mapped (refusedAt v) (brokenFor ps es v c)
 unfolding brokenFor
-broken-is ps es v c own home n owns homes moves choice colour rank falls a b x y = cc
+broken-is ps es v e entry c own alike n owns kinds moves choice colour rank falls a b x y = cc

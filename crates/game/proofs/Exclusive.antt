@@ -20,7 +20,7 @@ abbrev choose : Side → ℕ → ℕ → ℕ
 choose Green a b = a
 choose Red a b = b
 
-module _ (ps : List Position) (lawful : Lawful ps) (v : ℕ) (h : v < length ps) (g : Wins ps Green v) (r : Wins ps Red v) where
+module _ (ps : List Position) (lawful : Lawful ps) (v : ℕ) (g : Wins ps Green v) (r : Wins ps Red v) where
   -- the move that the owner's strategy makes at u
   move : ℕ → ℕ
   move u = choose (position ps u .owner) (g .σ u) (r .σ u)
@@ -40,12 +40,13 @@ module _ (ps : List Position) (lawful : Lawful ps) (v : ℕ) (h : v < length ps)
 
   within : (n : ℕ) → Going n → (i : ℕ) → i ≤ n → path i < length ps
   unfolding path
-  within n e zero l = h
+  within n e zero l = g .here
   within n e (suc i) l = lawful .bounded .targets (path i) (move (path i)) (path (suc i)) (leads n e i l)
 
   green : (n : ℕ) → Going n → GoodPath ps Green n path
   unfolding path move
   green n e = good-path ps Green n path g (record {
+    positions = within n e;
     steps = λ i l. (move (path i), leads n e i l);
     follows = λ i l o. subst (λ (k : ℕ). Leads ps (path i) k (path (suc i))) (ap (λ (c : Side). choose c (g .σ (path i)) (r .σ (path i))) o) (leads n e i l);
   })
@@ -53,6 +54,7 @@ module _ (ps : List Position) (lawful : Lawful ps) (v : ℕ) (h : v < length ps)
   red : (n : ℕ) → Going n → GoodPath ps Red n path
   unfolding path move
   red n e = good-path ps Red n path r (record {
+    positions = within n e;
     steps = λ i l. (move (path i), leads n e i l);
     follows = λ i l o. subst (λ (k : ℕ). Leads ps (path i) k (path (suc i))) (ap (λ (c : Side). choose c (g .σ (path i)) (r .σ (path i))) o) (leads n e i l);
   })

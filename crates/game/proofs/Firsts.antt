@@ -7,10 +7,11 @@ use native.Mathlib.Numerals.{add-one}
 use native.Mathlib.Omega.{arith}
 use Rattle.std.proofs.shelf.Tests.{cases-eq, and-from, and-left, and-right}
 use Rattle.std.proofs.shelf.Ways.{decides-below-and}
+use Rattle.std.specs.Options.{orOther}
 use Rattle.std.specs.Orderings.{Decides}
 use Rattle.std.specs.declared.option.Option.{Option}
 use Rattle.std.specs.declared.option.Option.the-variants.{Some, None}
-use Rattle.game.specs.First.{orElse, unless, firstBelow, allBelow}
+use Rattle.game.specs.First.{unless, firstBelow, allBelow}
 
 pub all-none : (f : ℕ → Bool) → allBelow f 0 ≡ true
 unfolding allBelow
@@ -51,7 +52,7 @@ pub unless-none : {F : Type 0} (b : Bool) (x : F) (o : Option F) → unless b x 
 unless-none true x o e = (refl, e)
 unless-none false x o e = let z : _≡_ {A = ℕ} 0 1 = cc in absurd (omega arith)
 
-none-both : {F : Type 0} (a b : Option F) → orElse a b ≡ None → (a ≡ None) × (b ≡ None)
+none-both : {F : Type 0} (a b : Option F) → orOther a b ≡ None → (a ≡ None) × (b ≡ None)
 none-both None b e = (refl, e)
 none-both (Some x) b e = let z : _≡_ {A = ℕ} 0 1 = cc in absurd (omega arith)
 
@@ -63,15 +64,15 @@ module _ {F : Type 0} (f : ℕ → Option F) where
   -- nothing at n: the search goes on
   pub first-more : (n : ℕ) → firstBelow f n ≡ None → f n ≡ None → firstBelow f (n + 1) ≡ None
   unfolding firstBelow
-  first-more n e h = ap (firstBelow f) (add-one n) ∙ ap (λ (o : Option F). orElse o (f n)) e ∙ h
+  first-more n e h = ap (firstBelow f) (add-one n) ∙ ap (λ (o : Option F). orOther o (f n)) e ∙ h
 
   -- what is found first stays the answer
   pub first-found : (i n : ℕ) (x : F) → firstBelow f i ≡ None → f i ≡ Some x → i < n → firstBelow f n ≡ Some x
   unfolding firstBelow
   first-found i zero x e h l = absurd (omega arith)
   first-found i (suc n) x e h l = elim (cases-eq i n) [
-    | inl s ↦ ap (λ (o : Option F). orElse o (f n)) (ap (firstBelow f) (sym s) ∙ e) ∙ ap f (sym s) ∙ h
-    | inr s ↦ ap (λ (o : Option F). orElse o (f n)) (first-found i n x e h (omega arith))
+    | inl s ↦ ap (λ (o : Option F). orOther o (f n)) (ap (firstBelow f) (sym s) ∙ e) ∙ ap f (sym s) ∙ h
+    | inr s ↦ ap (λ (o : Option F). orOther o (f n)) (first-found i n x e h (omega arith))
   ]
 
   pub first-clear : (n : ℕ) → firstBelow f n ≡ None → (i : ℕ) → i < n → f i ≡ None
@@ -84,4 +85,4 @@ module _ {F : Type 0} (f : ℕ → Option F) where
   pub first-all : (n : ℕ) → ((i : ℕ) → i < n → f i ≡ None) → firstBelow f n ≡ None
   unfolding firstBelow
   first-all zero h = refl
-  first-all (suc n) h = ap (λ (o : Option F). orElse o (f n)) (first-all n (λ i l. h i (omega arith))) ∙ h n (omega arith)
+  first-all (suc n) h = ap (λ (o : Option F). orOther o (f n)) (first-all n (λ i l. h i (omega arith))) ∙ h n (omega arith)

@@ -18,7 +18,7 @@ use Rattle.game.specs.declared.sheet.Entry.{Entry}
 use Rattle.game.specs.Sides.{opposite, numberOf, sideOf, same}
 use Rattle.game.specs.Positions.{Position, position, degree, target, Leads}
 use Rattle.game.specs.Sheets.{entryOf, Coloured}
-use Rattle.game.specs.Rules.{ChoiceFits, Counts, MovesKeepColour, RankFits, RankFalls, KeepsAt, Keeps}
+use Rattle.game.specs.Rules.{ChoiceFits, Counts, MovesKeepColour, RankFits, RankFalls, KeepsAt, KeepsRules}
 use Rattle.game.specs.Refusals.{Refused, refusedAt}
 use Rattle.game.specs.First.{firstBelow, allBelow, unless}
 use Rattle.game.specs.Checking.{choiceFits, eachCounting, keepsColour, rankFits, rankFalls, firstBroken, brokenFor, brokenBy, refusedBy, checked}
@@ -65,7 +65,7 @@ module _ (ps : List Position) (es : List Entry) (v : ℕ) (c : Side) where
 
   rank-decides : Decides (rankFits (same c (position ps v .kind)) (entryOf es v .rank)) (RankFits ps es v c)
   rank-decides =
-      decides-like _ (λ b. record { home = b .0; away = b .1 }) (λ r. (r .home, r .away))
+      decides-like _ (λ b. record { same-kind = b .0; other-kind = b .1 }) (λ r. (r .same-kind, r .other-kind))
       (side-decides c (position ps v .kind) _ _ _ _ (decides-eqb (entryOf es v .rank) 0) (leb-true 1 (entryOf es v .rank), le-leb 1 (entryOf es v .rank)))
 
   module _ (s : Coloured es v c) (fits : position ps v .owner ≡ c → entryOf es v .choice < degree ps v) where
@@ -117,13 +117,13 @@ module _ (ps : List Position) (es : List Entry) where
   kept-by v None e n = let z : _≡_ {A = ℕ} 0 1 = cc in absurd (omega arith)
   kept-by v (Some c) e n = (c, kept-at ps es v c (side-number _ c e) (unmapped _ _ n))
 
-  pub accepted-keeps : checked ps es ≡ None → Keeps ps es
+  pub accepted-keeps : checked ps es ≡ None → KeepsRules ps es
   accepted-keeps n =
       let (a, b) = unless-none _ _ _ n in
       let size = eqb-true (length es) (length ps) a in
       record { size = size; rules = λ v h. kept-by v (sideOf (entryOf es v .colour)) refl (first-clear (refusedBy ps es) (length ps) b v h) }
 
-  pub keeps-accepted : Keeps ps es → checked ps es ≡ None
+  pub keeps-accepted : KeepsRules ps es → checked ps es ≡ None
   keeps-accepted keeps =
       cond-true _ _ _ (eq-eqb (length es) (length ps) (keeps .size))
       ∙ first-all (refusedBy ps es) (length ps) (λ v h.

@@ -13,8 +13,8 @@ use Rattle.game.specs.declared.sheet.Entry.{Entry}
 use Rattle.game.specs.Sides.{same, sideOf}
 use Rattle.game.specs.Positions.{Position, position, degree, target}
 use Rattle.game.specs.Sheets.{entryOf, SameColours}
-use Rattle.game.specs.Rules.{Keeps}
-use Rattle.game.specs.Refusals.{Refused, refusedAt}
+use Rattle.game.specs.Rules.{KeepsRules}
+use Rattle.game.specs.Refusals.{Refused, refused, refusedAt}
 use Rattle.game.specs.First.{firstBelow, allBelow, unless}
 
 -- Rule 22 as a test: own says whether the colour owns the position.
@@ -29,9 +29,9 @@ eachCounting own choice n f = cond own (f choice) (allBelow f n)
 abbrev pub keepsColour : List Position → List Entry → ℕ → ℕ → Bool
 keepsColour ps es v k = eqb (entryOf es (target ps v k) .colour) (entryOf es v .colour)
 
--- Rule 24 as a test: home says whether the kind is the colour.
+-- Rule 24 as a test: alike says whether the kind is the colour.
 abbrev pub rankFits : Bool → ℕ → Bool
-rankFits home rank = cond home (eqb rank 0) (leb 1 rank)
+rankFits alike rank = cond alike (eqb rank 0) (leb 1 rank)
 
 -- Rule 25 as a test of move k: it leaves the level, or leads to a smaller rank.
 abbrev pub rankFalls : List Position → List Entry → ℕ → ℕ → Bool
@@ -41,19 +41,19 @@ rankFalls ps es v k = not (eqb (position ps (target ps v k) .level) (position ps
 abbrev pub firstBroken : Bool → Bool → Bool → Bool → Option ℕ
 firstBroken choice moves rank falls = unless choice 22 (unless moves 23 (unless rank 24 (unless falls 25 None)))
 
--- Rules 22 to 25 at v, whose colour is c.
+-- The number of the first one of the rules 22 to 25 that the entry of v breaks, c being its colour.
 unfoldable pub brokenFor : List Position → List Entry → ℕ → Side → Option ℕ
 brokenFor ps es v c =
     let own = same c (position ps v .owner) in
-    let home = same c (position ps v .kind) in
+    let kind = same c (position ps v .kind) in
     let each = eachCounting own (entryOf es v .choice) (degree ps v) in
     firstBroken
     (choiceFits own (entryOf es v .choice) (degree ps v))
     (each (keepsColour ps es v))
-    (rankFits home (entryOf es v .rank))
-    (home || each (rankFalls ps es v))
+    (rankFits kind (entryOf es v .rank))
+    (kind || each (rankFalls ps es v))
 
--- With rule 21 before them: the colour is a side.
+-- The same with rule 21 before them: the colour is a side.
 abbrev pub brokenBy : List Position → List Entry → ℕ → Option Side → Option ℕ
 brokenBy ps es v None = Some 21
 brokenBy ps es v (Some c) = brokenFor ps es v c
@@ -64,12 +64,12 @@ refusedBy ps es v = mapped (refusedAt v) (brokenBy ps es v (sideOf (entryOf es v
 
 -- The length first, then the positions from 0 upwards. Nothing where the sheet is accepted.
 abbrev pub checked : List Position → List Entry → Option Refused
-checked ps es = unless (eqb (length es) (length ps)) (record { number = 11; values = [] }) (firstBelow (refusedBy ps es) (length ps))
+checked ps es = unless (eqb (length es) (length ps)) (refused 11) (firstBelow (refusedBy ps es) (length ps))
 
 -- The check accepts exactly the sheets that keep the rules.
 pub record AcceptsKeeping (ps : List Position) (es : List Entry) (answer : Option Refused) : Type 0 where
-  pub keeps : answer ≡ None → Keeps ps es
-  pub accepts : Keeps ps es → answer ≡ None
+  pub sound : answer ≡ None → KeepsRules ps es
+  pub complete : KeepsRules ps es → answer ≡ None
 
 -- Every other sheet that the check accepts for the game has the same colours.
 abbrev pub UniqueColours : List Position → List Entry → Type 0

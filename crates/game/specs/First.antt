@@ -1,13 +1,9 @@
 -- Searches over the numbers below n.
 use mathlib.Core.Bool.{Bool, true, cond, _&&_}
 use Prim.Native.Nat.{ℕ, zero, suc}
+use Rattle.std.specs.Options.{orOther}
 use Rattle.std.specs.declared.option.Option.{Option}
 use Rattle.std.specs.declared.option.Option.the-variants.{Some, None}
-
--- The first answer, or else the second.
-abbrev pub orElse : {F : Type 0} → Option F → Option F → Option F
-orElse (Some x) o = Some x
-orElse None o = o
 
 -- The answer x unless a test holds; then later tests decide.
 abbrev pub unless : {F : Type 0} → Bool → F → Option F → Option F
@@ -16,7 +12,7 @@ unless holds x later = cond holds later (Some x)
 -- The first answer that f gives at 0, 1, .., n - 1.
 unfoldable pub firstBelow : {F : Type 0} → (ℕ → Option F) → ℕ → Option F
 firstBelow f zero = None
-firstBelow f (suc n) = orElse (firstBelow f n) (f n)
+firstBelow f (suc n) = orOther (firstBelow f n) (f n)
 
 -- Whether f holds of 0, 1, .., n - 1.
 unfoldable pub allBelow : (ℕ → Bool) → ℕ → Bool

@@ -22,8 +22,8 @@ pub record Bounded (ps : List Position) : Type 0 where
   pub targets : (u k w : ℕ) → Leads ps u k w → w < length ps
 
 -- No move leads to a lower level.
-abbrev pub Rises : List Position → Type 0
-Rises ps = (u k w : ℕ) → Leads ps u k w → position ps u .level ≤ position ps w .level
+abbrev pub Monotone : List Position → Type 0
+Monotone ps = (u k w : ℕ) → Leads ps u k w → position ps u .level ≤ position ps w .level
 
 -- A move within a level keeps the kind.
 abbrev pub KeepsKind : List Position → Type 0
@@ -32,5 +32,5 @@ KeepsKind ps = (u k w : ℕ) → Leads ps u k w → position ps u .level ≡ pos
 -- A list of positions is a game if it has the bounds and keeps both laws.
 pub record Lawful (ps : List Position) : Type 0 where
   pub bounded : Bounded ps
-  pub rises : Rises ps
-  pub keeps : KeepsKind ps
+  pub monotone : Monotone ps
+  pub keeps-kind : KeepsKind ps

@@ -38,17 +38,22 @@ pub record Leads (ps : List Position) (u k w : ℕ) : Type 0 where
   pub to : target ps u k ≡ w
 
 -- A game's answers: what the list holds, absent exactly where the position or the move is not there.
+-- The owner of position u, if it is there.
 abbrev pub ownerAt : List Position → ℕ → Option Side
 ownerAt ps u = mapped (λ q. q .owner) (nth ps u)
 
+-- Its level.
 abbrev pub levelAt : List Position → ℕ → Option ℕ
 levelAt ps u = mapped (λ q. q .level) (nth ps u)
 
+-- Its kind.
 abbrev pub kindAt : List Position → ℕ → Option Side
 kindAt ps u = mapped (λ q. q .kind) (nth ps u)
 
+-- The number of its moves.
 abbrev pub degreeAt : List Position → ℕ → Option ℕ
 degreeAt ps u = mapped (λ q. length (q .moves)) (nth ps u)
 
+-- Where its move k leads, if it has one.
 abbrev pub targetAt : List Position → ℕ → ℕ → Option ℕ
 targetAt ps u k = nth (position ps u .moves) k

@@ -22,12 +22,12 @@ Counts ps es v c k = position ps v .owner ≡ c → k ≡ entryOf es v .choice
 abbrev pub MovesKeepColour : List Position → List Entry → ℕ → Side → Type 0
 MovesKeepColour ps es v c = (k w : ℕ) → Leads ps v k w → Counts ps es v c k → Coloured es w c
 
--- Rule 24: the rank is 0 at home, where the kind is c, and at least 1 away.
+-- Rule 24: the rank is 0 where the kind is c, and at least 1 where it is not.
 pub record RankFits (ps : List Position) (es : List Entry) (v : ℕ) (c : Side) : Type 0 where
-  pub home : position ps v .kind ≡ c → entryOf es v .rank ≡ 0
-  pub away : position ps v .kind ≡ opposite c → 1 ≤ entryOf es v .rank
+  pub same-kind : position ps v .kind ≡ c → entryOf es v .rank ≡ 0
+  pub other-kind : position ps v .kind ≡ opposite c → 1 ≤ entryOf es v .rank
 
--- Rule 25: away from home, each move that counts and stays within the level leads to a smaller rank.
+-- Rule 25: where the kind is not c, each move that counts and stays within the level leads to a smaller rank.
 abbrev pub RankFalls : List Position → List Entry → ℕ → Side → Type 0
 RankFalls ps es v c = position ps v .kind ≡ opposite c → (k w : ℕ) → Leads ps v k w → Counts ps es v c k → position ps w .level ≡ position ps v .level → entryOf es w .rank < entryOf es v .rank
 
@@ -40,6 +40,6 @@ pub record KeepsAt (ps : List Position) (es : List Entry) (v : ℕ) (c : Side) :
   pub falls : RankFalls ps es v c
 
 -- The sheet keeps the rules: it has an entry for each position, and each keeps the rules for the side that it names.
-pub record Keeps (ps : List Position) (es : List Entry) : Type 0 where
+pub record KeepsRules (ps : List Position) (es : List Entry) : Type 0 where
   pub size : length es ≡ length ps
   pub rules : (v : ℕ) → v < length ps → (c : Side) × KeepsAt ps es v c

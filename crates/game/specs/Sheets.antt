@@ -24,7 +24,7 @@ Coloured es v c = entryOf es v .colour ≡ numberOf c
 -- The sheet is right about who wins: at each position the entry has a side's colour exactly when that side wins from there.
 pub record Settles (ps : List Position) (es : List Entry) : Type 0 where
   pub wins : (v : ℕ) → v < length ps → (c : Side) → Coloured es v c → Wins ps c v
-  pub coloured : (v : ℕ) → v < length ps → (c : Side) → Wins ps c v → Coloured es v c
+  pub coloured : (v : ℕ) (c : Side) → Wins ps c v → Coloured es v c
 
 -- Two sheets have the same colours at the positions of a game.
 abbrev pub SameColours : List Position → List Entry → List Entry → Type 0

@@ -11,14 +11,12 @@ use Rattle.game.specs.Positions.{Position, position, degree, Leads}
 abbrev pub place : List ℕ → ℕ → ℕ
 place run i = getD run i 0
 
--- A run is a list of positions, each next one reached by a move.
-abbrev pub Run : List Position → List ℕ → Type 0
-Run ps run = (i : ℕ) → suc i < length run → (k : ℕ) × Leads ps (place run i) k (place run (suc i))
-
--- A run from v: v is its first position.
-pub record From (v : ℕ) (run : List ℕ) : Type 0 where
+-- A run from v is a list of positions that begins with v, each next one reached by a move.
+pub record Run (ps : List Position) (v : ℕ) (run : List ℕ) : Type 0 where
   pub some : 0 < length run
   pub first : place run 0 ≡ v
+  pub positions : (i : ℕ) → i < length run → place run i < length ps
+  pub steps : (i : ℕ) → suc i < length run → (k : ℕ) × Leads ps (place run i) k (place run (suc i))
 
 -- A strategy of side c fixes one move at each of c's positions that has moves.
 abbrev pub Strategy : List Position → Side → (ℕ → ℕ) → Type 0
@@ -33,8 +31,9 @@ pub record Good (ps : List Position) (c : Side) (run : List ℕ) : Type 0 where
   pub moves : (i : ℕ) → i < length run → position ps (place run i) .owner ≡ c → 1 ≤ degree ps (place run i)
   pub once : (i j : ℕ) → i < j → j < length run → place run i ≡ place run j → position ps (place run i) .kind ≡ opposite c → ⊥
 
--- Side c wins from v: it has a strategy such that every run from v that follows it is good for c.
+-- Side c wins from position v: it has a strategy such that every run from v that follows it is good for c.
 pub record Wins (ps : List Position) (c : Side) (v : ℕ) : Type 0 where
+  pub here : v < length ps
   pub σ : ℕ → ℕ
   pub strategy : Strategy ps c σ
-  pub wins : (run : List ℕ) → From v run → Run ps run → Follows ps c σ run → Good ps c run
+  pub wins : (run : List ℕ) → Run ps v run → Follows ps c σ run → Good ps c run

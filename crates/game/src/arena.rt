@@ -3,8 +3,11 @@ ghost use mathlib.Core.List.{List};
 ghost use mathlib.Core.Path.{_≡_};
 ghost use lib.ListN.{length};
 ghost use Rattle.game.specs.Positions.{Position, ownerAt, levelAt, kindAt, degreeAt, targetAt};
-ghost use Rattle.game.specs.Laws.{Bounded, Rises, KeepsKind};
+ghost use Rattle.game.specs.Laws.{Bounded, Monotone, KeepsKind};
 use crate::side::Side;
+
+// The most positions that a game has.
+pub const MOST_POSITIONS: usize = 16384;
 
 // A two-player game on positions 0 to count - 1. Its meaning is the list of its positions, and
 // each answer is read off that list: absent exactly where the position or the move is not there.
@@ -13,7 +16,7 @@ pub trait Game {
 
     law bounded: { (x : Self) → Bounded (meaning x) };
 
-    law rises: { (x : Self) → Rises (meaning x) };
+    law monotone: { (x : Self) → Monotone (meaning x) };
 
     law keeps: { (x : Self) → KeepsKind (meaning x) };
 

@@ -1,14 +1,14 @@
 // The check: a sheet is accepted exactly if it keeps the five rules, and then its colours say who wins.
 ghost use mathlib.Core.Bool.{true};
 ghost use mathlib.Core.Path.{_≡_};
-ghost use Prim.Native.Nat.{ℕ, _<_};
+ghost use Prim.Native.Nat.{_<_};
 ghost use lib.Dec.{eqb};
 ghost use lib.ListN.{length};
 ghost use Rattle.std.specs.declared.option.Option.the-variants.{None};
 ghost use Rattle.std.specs.Options.{mapped};
 ghost use Rattle.game.specs.Positions.{position, degree, target};
 ghost use Rattle.game.specs.Sheets.{entryOf, Settles};
-ghost use Rattle.game.specs.Refusals.{refusedAt, told};
+ghost use Rattle.game.specs.Refusals.{refusedAt, tells, told};
 ghost use Rattle.game.specs.Checking.{choiceFits, eachCounting, keepsColour, rankFits, rankFalls, brokenFor, refusedBy, checked, AcceptsKeeping, UniqueColours};
 use crate::arena::Game;
 use crate::refusal::Refusal;
@@ -16,13 +16,13 @@ use crate::sheet::Entry;
 use crate::side::Side;
 use crate::side::SidePartialEq;
 
-// What a position is, but for where its moves lead.
+// The parts of a position but the targets of its moves.
 #[derive(Clone, Copy)]
-struct Place {
+struct Header {
     owner: Side,
     level: usize,
     kind: Side,
-    degree: usize,
+    move_count: usize,
 }
 
 // Whether moves keep the rules 23 and 25.
@@ -32,6 +32,7 @@ struct MoveRules {
     rank_falls: bool,
 }
 
+// Rule 22.
 fn choice_fits(own: bool, choice: u16, moves: usize) -> bool
     ensures { λ r. ⌜ r ≡ choiceFits own choice moves ⌝ }
 {
@@ -42,13 +43,14 @@ fn choice_fits(own: bool, choice: u16, moves: usize) -> bool
     }
 }
 
-fn rank_fits(home: bool, rank: u16) -> bool
-    ensures { λ r. ⌜ r ≡ rankFits home rank ⌝ }
+// Rule 24.
+fn rank_fits(same_kind: bool, rank: u16) -> bool
+    ensures { λ r. ⌜ r ≡ rankFits «same_kind» rank ⌝ }
 {
-    if home { rank == 0 } else { rank >= 1 }
+    if same_kind { rank == 0 } else { rank >= 1 }
 }
 
-// The level of position `v`, which is there.
+// The level of `v`, a position of the game.
 fn level_of<G: Game>(game: &G, v: usize) -> usize
     requires { ⌜ v < length (G·Game .meaning (now game)) ⌝ }
     ensures { λ r. ⌜ r ≡ position (G·Game .meaning (now (game .entry))) v .level ⌝ }
@@ -56,7 +58,7 @@ fn level_of<G: Game>(game: &G, v: usize) -> usize
     game.level(v).unwrap()
 }
 
-// Where move `k` of `v` leads, which is there.
+// Where `k`, a move of `v`, leads.
 fn target_of<G: Game>(game: &G, v: usize, k: usize) -> usize
     requires { ⌜ k < degree (G·Game .meaning (now game)) v ⌝ }
     ensures value { λ r. ⌜ r ≡ target (G·Game .meaning (now (game .entry))) v k ⌝ }
@@ -65,19 +67,19 @@ fn target_of<G: Game>(game: &G, v: usize, k: usize) -> usize
     game.target(v, k).unwrap()
 }
 
-// Position `v`, which is there.
-fn place_of<G: Game>(game: &G, v: usize) -> Place
+// The parts of `v`, a position of the game.
+fn header_of<G: Game>(game: &G, v: usize) -> Header
     requires { ⌜ v < length (G·Game .meaning (now game)) ⌝ }
     ensures owner { λ r. ⌜ r .owner ≡ position (G·Game .meaning (now (game .entry))) v .owner ⌝ }
     ensures level { λ r. ⌜ r .level ≡ position (G·Game .meaning (now (game .entry))) v .level ⌝ }
     ensures kind { λ r. ⌜ r .kind ≡ position (G·Game .meaning (now (game .entry))) v .kind ⌝ }
-    ensures degree { λ r. ⌜ r .degree ≡ degree (G·Game .meaning (now (game .entry))) v ⌝ }
+    ensures move_count { λ r. ⌜ r .«move_count» ≡ degree (G·Game .meaning (now (game .entry))) v ⌝ }
 {
-    Place {
+    Header {
         owner: game.owner(v).unwrap(),
         level: level_of(game, v),
         kind: game.kind(v).unwrap(),
-        degree: game.degree(v).unwrap(),
+        move_count: game.degree(v).unwrap(),
     }
 }
 
@@ -103,23 +105,23 @@ fn rules_of_moves<G: Game>(
     sheet: &[Entry],
     v: usize,
     own: bool,
-    place: Place,
+    header: Header,
 ) -> MoveRules
     requires sized { ⌜ length (now sheet) ≡ length (G·Game .meaning (now game)) ⌝ }
     requires within { ⌜ v < length (now sheet) ⌝ }
-    requires level { ⌜ place .level ≡ position (G·Game .meaning (now game)) v .level ⌝ }
-    requires degree { ⌜ place .degree ≡ degree (G·Game .meaning (now game)) v ⌝ }
-    requires choice { ⌜ choiceFits own (entryOf (now sheet) v .choice) (place .degree) ≡ true ⌝ }
-    ensures keeps_colour { λ r. ⌜ r .«keeps_colour» ≡ eachCounting own (entryOf (now (sheet .entry)) v .choice) (place .degree) (keepsColour (G·Game .meaning (now (game .entry))) (now (sheet .entry)) v) ⌝ }
-    ensures rank_falls { λ r. ⌜ r .«rank_falls» ≡ eachCounting own (entryOf (now (sheet .entry)) v .choice) (place .degree) (rankFalls (G·Game .meaning (now (game .entry))) (now (sheet .entry)) v) ⌝ }
+    requires level { ⌜ header .level ≡ position (G·Game .meaning (now game)) v .level ⌝ }
+    requires move_count { ⌜ header .«move_count» ≡ degree (G·Game .meaning (now game)) v ⌝ }
+    requires choice { ⌜ choiceFits own (entryOf (now sheet) v .choice) (header .«move_count») ≡ true ⌝ }
+    ensures keeps_colour { λ r. ⌜ r .«keeps_colour» ≡ eachCounting own (entryOf (now (sheet .entry)) v .choice) (header .«move_count») (keepsColour (G·Game .meaning (now (game .entry))) (now (sheet .entry)) v) ⌝ }
+    ensures rank_falls { λ r. ⌜ r .«rank_falls» ≡ eachCounting own (entryOf (now (sheet .entry)) v .choice) (header .«move_count») (rankFalls (G·Game .meaning (now (game .entry))) (now (sheet .entry)) v) ⌝ }
 {
     if own {
-        return rules_of_move(game, sheet, v, sheet[v].choice as usize, place.level);
+        return rules_of_move(game, sheet, v, sheet[v].choice as usize, header.level);
     }
     let mut keeps_colour = true;
     let mut rank_falls = true;
-    for k in 0..place.degree {
-        let step = rules_of_move(game, sheet, v, k, place.level);
+    for k in 0..header.move_count {
+        let step = rules_of_move(game, sheet, v, k, header.level);
         keeps_colour &= step.keeps_colour;
         rank_falls &= step.rank_falls;
     }
@@ -130,25 +132,32 @@ fn rules_of_moves<G: Game>(
 }
 
 // The first of the rules 22 to 25 that the entry of `v`, whose colour is `c`, breaks.
-fn check_for<G: Game>(game: &G, sheet: &[Entry], v: usize, c: Side) -> Result<(), Refusal>
+fn check_for<G: Game>(
+    game: &G,
+    sheet: &[Entry],
+    v: usize,
+    entry: Entry,
+    c: Side,
+) -> Result<(), Refusal>
     requires sized { ⌜ length (now sheet) ≡ length (G·Game .meaning (now game)) ⌝ }
     requires within { ⌜ v < length (now sheet) ⌝ }
-    ensures { λ r. ⌜ told r ≡ mapped (refusedAt v) (brokenFor (G·Game .meaning (now (game .entry))) (now (sheet .entry)) v c) ⌝ }
+    requires entry { ⌜ entry ≡ entryOf (now sheet) v ⌝ }
+    ensures { λ r. ⌜ told tells r ≡ mapped (refusedAt v) (brokenFor (G·Game .meaning (now (game .entry))) (now (sheet .entry)) v c) ⌝ }
 {
-    let place = place_of(game, v);
-    let own = c == place.owner;
-    if !choice_fits(own, sheet[v].choice, place.degree) {
+    let header = header_of(game, v);
+    let own = c == header.owner;
+    if !choice_fits(own, entry.choice, header.move_count) {
         return Err(Refusal::Choice(v));
     }
-    let moves = rules_of_moves(game, sheet, v, own, place);
+    let moves = rules_of_moves(game, sheet, v, own, header);
     if !moves.keeps_colour {
         return Err(Refusal::Move(v));
     }
-    let home = c == place.kind;
-    if !rank_fits(home, sheet[v].rank) {
+    let same_kind = c == header.kind;
+    if !rank_fits(same_kind, entry.rank) {
         return Err(Refusal::Rank(v));
     }
-    let falls = home | moves.rank_falls;
+    let falls = same_kind | moves.rank_falls;
     if !falls {
         return Err(Refusal::Fall(v));
     }
@@ -160,10 +169,10 @@ fn check_entry<G: Game>(game: &G, sheet: &[Entry], v: usize, entry: Entry) -> Re
     requires sized { ⌜ length (now sheet) ≡ length (G·Game .meaning (now game)) ⌝ }
     requires within { ⌜ v < length (now sheet) ⌝ }
     requires entry { ⌜ entry ≡ entryOf (now sheet) v ⌝ }
-    ensures { λ r. ⌜ told r ≡ refusedBy (G·Game .meaning (now (game .entry))) (now (sheet .entry)) v ⌝ }
+    ensures { λ r. ⌜ told tells r ≡ refusedBy (G·Game .meaning (now (game .entry))) (now (sheet .entry)) v ⌝ }
 {
     match Side::from_number(entry.colour) {
-        Some(c) => check_for(game, sheet, v, c),
+        Some(c) => check_for(game, sheet, v, entry, c),
         None => Err(Refusal::Colour(v)),
     }
 }
@@ -177,10 +186,10 @@ pub fn is_sized<G: Game>(game: &G, sheet: &[Entry]) -> bool
 
 // Accepts a sheet, or says which rule it breaks first: its length, then the entries from position 0 upwards.
 pub fn check<G: Game>(game: &G, sheet: &[Entry]) -> Result<(), Refusal>
-    ensures first_broken { λ r. ⌜ told r ≡ checked (G·Game .meaning (now (game .entry))) (now (sheet .entry)) ⌝ }
-    ensures accepts_keeping { λ r. ⌜ AcceptsKeeping (G·Game .meaning (now (game .entry))) (now (sheet .entry)) (told r) ⌝ }
-    ensures colours_win { λ r. ⌜ (told r ≡ None → Settles (G·Game .meaning (now (game .entry))) (now (sheet .entry))) ⌝ }
-    ensures colours_unique { λ r. ⌜ (told r ≡ None → UniqueColours (G·Game .meaning (now (game .entry))) (now (sheet .entry))) ⌝ }
+    ensures first_broken { λ r. ⌜ told tells r ≡ checked (G·Game .meaning (now (game .entry))) (now (sheet .entry)) ⌝ }
+    ensures accepts_keeping { λ r. ⌜ AcceptsKeeping (G·Game .meaning (now (game .entry))) (now (sheet .entry)) (told tells r) ⌝ }
+    ensures colours_win { λ r. ⌜ (told tells r ≡ None → Settles (G·Game .meaning (now (game .entry))) (now (sheet .entry))) ⌝ }
+    ensures colours_unique { λ r. ⌜ (told tells r ≡ None → UniqueColours (G·Game .meaning (now (game .entry))) (now (sheet .entry))) ⌝ }
 {
     if !is_sized(game, sheet) {
         return Err(Refusal::Length);

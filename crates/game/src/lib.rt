@@ -1,4 +1,4 @@
-// What a game is, what a sheet for it is, and the check that certifies one.
+// What a game is, who wins it, what a sheet for it is, and the check that accepts the right ones.
 pub mod arena;
 pub mod check;
 pub mod refusal;

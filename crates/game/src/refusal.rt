@@ -2,6 +2,7 @@
 ghost use mathlib.Core.Path.{_≡_};
 ghost use Rattle.std.specs.Vec.{listOf};
 ghost use Rattle.game.specs.Refusals.{tells};
+use std::fmt;
 
 // The first broken rule. Each case but the first names the first position whose entry breaks one.
 #[derive(Clone, Copy, PartialEq, Eq, Debug)]
@@ -14,9 +15,9 @@ pub enum Refusal {
     Choice(usize),
     // A move that counts leads to another colour.
     Move(usize),
-    // The rank is not 0 at home, or is 0 away.
+    // The rank is not 0 where the kind is the colour, or is 0 where it is not.
     Rank(usize),
-    // Away from home a move that counts stays in the level, and the rank does not fall.
+    // The kind is not the colour, and a move that counts within the level leads to no smaller rank.
     Fall(usize),
 }
 
@@ -46,6 +47,16 @@ impl Refusal {
             | Refusal::Move(v)
             | Refusal::Rank(v)
             | Refusal::Fall(v) => Some(*v),
+        }
+    }
+}
+
+pub impl fmt::Display for Refusal as RefusalDisplay {
+    fn fmt<W: fmt::Write>(&self, f: &mut fmt::Formatter<W>) -> fmt::Result {
+        let number = self.number();
+        match self.position() {
+            Some(v) => write!(f, "refused {number} at position {v}"),
+            None => write!(f, "refused {number}"),
         }
     }
 }

@@ -1,8 +1,9 @@
 // A sheet is a certificate for a game: a slice with an entry for each position.
 
-// Who wins from a position and how. `colour` is the number of the winning side (Green 0, Red 1);
-// `choice` is the number of the move that it makes there, if the position is its own, else 0;
-// `rank` is a progress measure: it falls along the winner's moves where the loser wants to go round.
+// What a sheet says of one position. `colour` is the number of the side that wins from there (Green 0,
+// Red 1). `choice` is the number of the move by which it wins where it owns the position, else 0.
+// `rank`, a progress measure, is 0 where the position's kind is the colour; elsewhere it is at least 1
+// and falls along each move that counts within the level.
 #[derive(Clone, Copy, PartialEq, Eq, Debug)]
 pub struct Entry {
     pub colour: u8,

@@ -2,7 +2,7 @@
 ghost use mathlib.Core.Path.{_≡_};
 ghost use Rattle.game.specs.Sides.{numberOf, opposite, sideOf};
 
-// Green, number 0, wants the property to hold; Red, number 1, wants it to fail.
+// The two players. Where a game stands for a property, Green wants it to hold and Red wants it to fail.
 #[derive(Clone, Copy, PartialEq, Eq, Debug)]
 pub enum Side {
     Green,

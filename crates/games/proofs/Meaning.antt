@@ -15,7 +15,7 @@ use Rattle.std.proofs.shelf.Maps.{nth-getD, nth-past}
 use Rattle.std.proofs.shelf.Tests.{cases-lt}
 use Rattle.game.specs.declared.side.Side.{Side}
 use Rattle.game.specs.Positions.{Position, blank, position, degree, targetAt, Leads}
-use Rattle.game.specs.Laws.{Bounded, Rises, KeepsKind, Lawful}
+use Rattle.game.specs.Laws.{Bounded, Monotone, KeepsKind, Lawful}
 use Rattle.game.proofs.Answered.{leads-from}
 use Rattle.games.specs.declared.row.Row.{Row}
 use Rattle.games.specs.Rows.{sideIn, spanOf, positionOf, meaningOf, blankRow, rowOf, rowsRefusal}
@@ -108,14 +108,14 @@ module _ (rs : List Row) (ts : List ℕ) (none : isSome (rowsRefusal rs ts) ≡ 
               omega arith;
           targets = λ u k w l. let m = move u k w l in omega (arith, m .there);
         };
-        rises = λ u k w l.
+        monotone = λ u k w l.
             let m = move u k w l in
             let r = s .rows u (m .here) .rises k (m .within-span) in
             let a = ap (λ (q : Position). q .level) (m .from) in
             let b = ap (λ (q : Position). q .level) (m .to) in
             let t = ap (λ (x : ℕ). rowOf rs x .level) (m .target) in
             omega arith;
-        keeps = λ u k w l e.
+        keeps-kind = λ u k w l e.
             let m = move u k w l in
             let a = ap (λ (q : Position). q .level) (m .from) in
             let b = ap (λ (q : Position). q .level) (m .to) in

@@ -1,24 +1,22 @@
 -- Which game two lists make, a list of rows and a list of targets, or why they make none.
-use mathlib.Core.List.{List, [], map}
+use mathlib.Core.List.{List, map}
 use mathlib.Core.Bool.{Bool, cond, not, _&&_, _||_}
 use Prim.Native.Nat.{ℕ, _+_}
 use lib.ListN.{length, getD, take, drop}
 use lib.Dec.{leb, ltb, eqb}
 use Rattle.std.specs.declared.option.Option.{Option}
 use Rattle.std.specs.declared.option.Option.the-variants.{Some, None}
-use Rattle.std.specs.declared.result.Result.{Result}
-use Rattle.std.specs.declared.result.Result.the-variants.{Ok, Err}
 use Rattle.game.specs.declared.side.Side.{Side}
 use Rattle.game.specs.declared.side.Side.the-variants.{Green, Red}
 use Rattle.game.specs.Positions.{Position}
 use Rattle.game.specs.Laws.{mostPositions, mostMoves}
-use Rattle.game.specs.Refusals.{Refused, refusedAt}
+use Rattle.game.specs.Refusals.{Refused, refused, refusedAt}
 use Rattle.game.specs.First.{firstBelow, allBelow, unless}
 use Rattle.games.specs.declared.row.Row.{Row}
 use Rattle.games.specs.declared.row.RowsFault.{RowsFault}
 use Rattle.games.specs.declared.row.RowsFault.the-variants as fault
 
--- The side that a row writes as n: Green as 0, Red as 1.
+-- The side that a row writes as n: Green as 0, Red as 1. In a game no row writes another number.
 abbrev pub sideIn : ℕ → Side
 sideIn n = cond (eqb n 0) Green Red
 
@@ -42,7 +40,7 @@ blankRow = record { owner = 0; level = 0; kind = 0; first = 0; count = 0 }
 abbrev pub rowOf : List Row → ℕ → Row
 rowOf rs i = getD rs i blankRow
 
--- The span lies in the list of targets, and is no longer than a position's moves may be.
+-- The span lies in the list of targets. (It is no longer than a position's moves may be, which 16 bits always keep.)
 abbrev pub spanFits : List ℕ → Row → Bool
 spanFits ts r = leb (r .first + r .count) (length ts) && leb (r .count) mostMoves
 
@@ -62,7 +60,7 @@ keepsLaw r t = leb (r .level) (t .level) && (not (eqb (r .level) (t .level)) || 
 abbrev pub isLawful : List Row → Row → List ℕ → ℕ → Bool
 isLawful rs r span k = keepsLaw r (rowOf rs (getD span k 0))
 
--- A row keeps the laws: its level is below the number of rows, and so do its moves.
+-- A row keeps the laws: its level is below the number of rows, and each of its moves keeps both laws.
 abbrev pub keepsLaws : List Row → List ℕ → Row → Bool
 keepsLaws rs ts r = ltb (r .level) (length rs) && allBelow (isLawful rs r (spanOf ts r)) (length (spanOf ts r))
 
@@ -72,15 +70,10 @@ rowRefusal rs ts i = unless (wellFormed rs ts (rowOf rs i)) (refusedAt i 15) (un
 
 -- The number of rows first, then row by row. Nothing where the lists make a game.
 abbrev pub rowsRefusal : List Row → List ℕ → Option Refused
-rowsRefusal rs ts = unless (leb 1 (length rs) && leb (length rs) mostPositions) (record { number = 14; values = [] }) (firstBelow (rowRefusal rs ts) (length rs))
+rowsRefusal rs ts = unless (leb 1 (length rs) && leb (length rs) mostPositions) (refused 14) (firstBelow (rowRefusal rs ts) (length rs))
 
 -- What a fault tells: its number, and the row.
 abbrev pub tells : RowsFault → Refused
-tells fault.Count = record { number = 14; values = [] }
-tells (fault.Row i) = refusedAt i 15
-tells (fault.Law i) = refusedAt i 16
-
--- What the answer of a scan tells: nothing where it found no fault.
-abbrev pub told : Result (Unit {0}) RowsFault → Option Refused
-told (Ok _) = None
-told (Err e) = Some (tells e)
+tells fault.Count = refused 14
+tells (fault.Malformed i) = refusedAt i 15
+tells (fault.Unlawful i) = refusedAt i 16

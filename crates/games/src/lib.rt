@@ -1,4 +1,4 @@
-// Makes of games.
+// Ways to make a game.
 pub mod row;
+mod row_rules;
 pub mod rows;
-mod spans;

@@ -20,9 +20,9 @@ pub enum RowsFault {
     // There is no row, or there are too many.
     Count,
     // A side is neither 0 nor 1, the span passes the list's end, or a target is no row.
-    Row(usize),
+    Malformed(usize),
     // The level is not below the number of rows, or a move breaks a law.
-    Law(usize),
+    Unlawful(usize),
 }
 
 impl RowsFault {
@@ -32,8 +32,8 @@ impl RowsFault {
     {
         match self {
             RowsFault::Count => 14,
-            RowsFault::Row(_) => 15,
-            RowsFault::Law(_) => 16,
+            RowsFault::Malformed(_) => 15,
+            RowsFault::Unlawful(_) => 16,
         }
     }
 
@@ -43,7 +43,7 @@ impl RowsFault {
     {
         match self {
             RowsFault::Count => None,
-            RowsFault::Row(i) | RowsFault::Law(i) => Some(*i),
+            RowsFault::Malformed(i) | RowsFault::Unlawful(i) => Some(*i),
         }
     }
 }

@@ -5,14 +5,16 @@ ghost use Rattle.std.specs.declared.option.Option.the-variants.{Some, None};
 ghost use Rattle.std.specs.Options.{isSome};
 ghost use Rattle.std.specs.Results.{Cases};
 ghost use Rattle.std.specs.Of.Vec.{vec-items};
+ghost use lib.ListN.{length};
+ghost use Rattle.game.specs.Positions.{ownerAt, levelAt, kindAt, degreeAt, targetAt};
 ghost use Rattle.games.specs.Rows.{rowsRefusal, meaningOf, tells};
 ghost use Rattle.games.specs.RowReads.{ReadOff};
 use crate::row::Row;
 use crate::row::RowsFault;
-use crate::spans::row_at;
-use crate::spans::rows_fault;
-use crate::spans::side_in;
-use crate::spans::target_at;
+use crate::row_rules::row_at;
+use crate::row_rules::rows_fault;
+use crate::row_rules::side_in;
+use crate::row_rules::target_at;
 use game::arena::Game;
 use game::side::Side;
 
@@ -67,39 +69,51 @@ impl Rows {
 pub impl Game for Rows as RowsGame {
     ghost meaning = { λ s. meaningOf (vec-items (s .rows)) (vec-items (s .targets)) };
 
-    fn count(&self) -> usize {
+    fn count(&self) -> usize
+        ensures { λ r. ⌜ r ≡ length (meaningOf (vec-items (now (self .entry) .rows)) (vec-items (now (self .entry) .targets))) ⌝ }
+    {
         self.rows.len()
     }
 
-    fn owner(&self, p: usize) -> Option<Side> {
+    fn owner(&self, p: usize) -> Option<Side>
+        ensures { λ r. ⌜ r ≡ ownerAt (meaningOf (vec-items (now (self .entry) .rows)) (vec-items (now (self .entry) .targets))) p ⌝ }
+    {
         match self.row(p) {
             Some(row) => Some(side_in(row.owner)),
             None => None,
         }
     }
 
-    fn level(&self, p: usize) -> Option<usize> {
+    fn level(&self, p: usize) -> Option<usize>
+        ensures { λ r. ⌜ r ≡ levelAt (meaningOf (vec-items (now (self .entry) .rows)) (vec-items (now (self .entry) .targets))) p ⌝ }
+    {
         match self.row(p) {
             Some(row) => Some(row.level as usize),
             None => None,
         }
     }
 
-    fn kind(&self, p: usize) -> Option<Side> {
+    fn kind(&self, p: usize) -> Option<Side>
+        ensures { λ r. ⌜ r ≡ kindAt (meaningOf (vec-items (now (self .entry) .rows)) (vec-items (now (self .entry) .targets))) p ⌝ }
+    {
         match self.row(p) {
             Some(row) => Some(side_in(row.kind)),
             None => None,
         }
     }
 
-    fn degree(&self, p: usize) -> Option<usize> {
+    fn degree(&self, p: usize) -> Option<usize>
+        ensures { λ r. ⌜ r ≡ degreeAt (meaningOf (vec-items (now (self .entry) .rows)) (vec-items (now (self .entry) .targets))) p ⌝ }
+    {
         match self.row(p) {
             Some(row) => Some(row.count as usize),
             None => None,
         }
     }
 
-    fn target(&self, p: usize, k: usize) -> Option<usize> {
+    fn target(&self, p: usize, k: usize) -> Option<usize>
+        ensures { λ r. ⌜ r ≡ targetAt (meaningOf (vec-items (now (self .entry) .rows)) (vec-items (now (self .entry) .targets))) p k ⌝ }
+    {
         match self.row(p) {
             Some(row) => target_at(&self.targets, row, k),
             None => None,

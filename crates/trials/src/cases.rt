@@ -17,13 +17,13 @@ use std::error::AnyError;
 
 // How many cases were tried, and how many came out other than the other checker says.
 #[derive(Clone, Copy)]
-pub struct Tally {
+pub(crate) struct Tally {
     pub tried: usize,
     pub differ: usize,
 }
 
 impl Tally {
-    pub fn new() -> Tally {
+    pub(crate) fn new() -> Tally {
         Tally {
             tried: 0,
             differ: 0,
@@ -47,8 +47,16 @@ struct Answer {
 
 fn take_answer(numbers: &mut Numbers) -> Result<Answer, AnyError> {
     let count = numbers.take()?;
-    let number = if count >= 1 { Some(numbers.take()?) } else { None };
-    let value = if count >= 2 { Some(numbers.take()?) } else { None };
+    let number = if count >= 1 {
+        Some(numbers.take()?)
+    } else {
+        None
+    };
+    let value = if count >= 2 {
+        Some(numbers.take()?)
+    } else {
+        None
+    };
     Ok(Answer { number, value })
 }
 
@@ -110,7 +118,7 @@ fn answer_of_check(result: Result<(), Refusal>) -> Result<Answer, AnyError> {
 
 // The tallies of all cases in a file.
 #[derive(Clone, Copy)]
-pub struct Tallies {
+pub(crate) struct Tallies {
     pub games: Tally,
     pub checks: Tally,
 }
@@ -144,7 +152,11 @@ fn try_game(
 }
 
 // One case: the game that the rows make, or why they make none, and its checks.
-fn try_case(rt: &LibcRuntime, numbers: &mut Numbers, tallies: &mut Tallies) -> Result<(), AnyError> {
+fn try_case(
+    rt: &LibcRuntime,
+    numbers: &mut Numbers,
+    tallies: &mut Tallies,
+) -> Result<(), AnyError> {
     let count = numbers.take()?;
     let target_count = numbers.take()?;
     let mut rows = Vec::new(rt.alloc());
@@ -162,14 +174,16 @@ fn try_case(rt: &LibcRuntime, numbers: &mut Numbers, tallies: &mut Tallies) -> R
             try_game(rt, numbers, &game, count, tallies)
         }
         Err(refused) => {
-            tallies.games.note(answer_of_rows(refused.fault)? == expected);
+            tallies
+                .games
+                .note(answer_of_rows(refused.fault)? == expected);
             Ok(())
         }
     }
 }
 
 // Tries every case of a file, and prints how many there were and how many differ.
-pub fn try_cases(rt: &LibcRuntime, path: &str) -> Result<(), AnyError> {
+pub(crate) fn try_cases(rt: &LibcRuntime, path: &str) -> Result<(), AnyError> {
     let mut numbers = Numbers::read(rt, path)?;
     let mut tallies = Tallies {
         games: Tally::new(),

@@ -1,5 +1,4 @@
 // Cases whose answers are known from elsewhere, run: the rules' worked cases, and games with the answers of another checker.
-mod answers;
 mod cases;
 mod numbers;
 mod worked;

@@ -3,13 +3,13 @@ use std::error::AnyError;
 use std::fs;
 
 #[derive(Drop)]
-pub struct Numbers {
+pub(crate) struct Numbers {
     items: Vec<u16>,
     next: usize,
 }
 
 impl Numbers {
-    pub fn read(rt: &LibcRuntime, path: &str) -> Result<Numbers, AnyError> {
+    pub(crate) fn read(rt: &LibcRuntime, path: &str) -> Result<Numbers, AnyError> {
         let text = fs::read_to_string(rt, path)?;
         let mut items = Vec::new(rt.alloc());
         for word in text.as_str().split_whitespace() {
@@ -19,16 +19,16 @@ impl Numbers {
     }
 
     // How many numbers there are in all.
-    pub fn len(&self) -> usize {
+    pub(crate) fn len(&self) -> usize {
         self.items.len()
     }
 
-    pub fn is_done(&self) -> bool {
+    pub(crate) fn is_done(&self) -> bool {
         self.next >= self.items.len()
     }
 
     // The next number; a file that ends within a case is an error.
-    pub fn take(&mut self) -> Result<u16, AnyError> {
+    pub(crate) fn take(&mut self) -> Result<u16, AnyError> {
         let Some(number) = self.items.get(self.next).copied() else {
             return Err("the file ends within a case".into());
         };

@@ -2,8 +2,8 @@
 ghost use mathlib.Core.List.{[], _∷_};
 ghost use mathlib.Core.Path.{_≡_};
 ghost use Rattle.trials.specs.Worked.{oneRow, OneRowCase};
-use crate::answers::show_refusal;
 use game::check::check;
+use game::refusal::RefusalDisplay;
 use game::sheet::Entry;
 use games::row::Row;
 use games::rows::Rows;
@@ -25,7 +25,7 @@ pub fn one_row() -> Row
 }
 
 // The one-row case: what the check answers for three sheets.
-pub fn try_one_row(rt: &LibcRuntime) -> Result<(), AnyError> {
+pub(crate) fn try_one_row(rt: &LibcRuntime) -> Result<(), AnyError> {
     let rows = vec![in rt.alloc(); one_row()]?;
     let targets = vec![in rt.alloc(); 0u16]?;
     let Ok(game) = Rows::new(rows, targets) else {
@@ -40,14 +40,14 @@ pub fn try_one_row(rt: &LibcRuntime) -> Result<(), AnyError> {
         print!(rt, "one row, entry ({colour}, {choice}, {rank}): ")?;
         match check(&game, &[entry]) {
             Ok(()) => println!(rt, "accepted")?,
-            Err(refusal) => show_refusal(rt, refusal)?,
+            Err(refusal) => println!(rt, "{refusal}")?,
         }
     }
     Ok(())
 }
 
 // How many rows make a game: `count` rows, each Green's and without moves.
-pub fn try_count(rt: &LibcRuntime, count: usize) -> Result<(), AnyError> {
+pub(crate) fn try_count(rt: &LibcRuntime, count: usize) -> Result<(), AnyError> {
     let row = Row {
         owner: 0,
         level: 0,

@@ -23,9 +23,9 @@ returns-then-not-is-sized g c =
     let value = told-length ps es (c .if-not-is-sized .ensures tt) in
     record {
       first-broken = value;
-      accepts-keeping = accepts ps (met .bounded x) (met .rises x) (met .keeps x) es _ value;
-      colours-win = wins ps (met .bounded x) (met .rises x) (met .keeps x) es _ value;
-      colours-unique = unique ps (met .bounded x) (met .rises x) (met .keeps x) es _ value;
+      accepts-keeping = accepts ps (met .bounded x) (met .monotone x) (met .keeps x) es _ value;
+      colours-win = wins ps (met .bounded x) (met .monotone x) (met .keeps x) es _ value;
+      colours-unique = unique ps (met .bounded x) (met .monotone x) (met .keeps x) es _ value;
     }
 
 pub returns-in-Break-check-entry : need.returns-in-Break-check-entry
@@ -35,14 +35,14 @@ returns-in-Break-check-entry g c =
     let es = c .args .sheet .now in
     let met = g .G·Game·met in
     let out = err-from-errBy (c .from-residual .result) (c .from-residual .ensures .1) in
-    let value : told (c .from-residual .result) ≡ checked ps es =
-    ap told (out .1) ∙ ap (λ (e : Refusal). Some (tells e)) (out .2)
+    let value : told tells (c .from-residual .result) ≡ checked ps es =
+    ap (told tells) (out .1) ∙ ap (λ (e : Refusal). Some (tells e)) (out .2)
     ∙ told-found ps es (c .if-not-is-sized .ensures tt) _ (c .loop-v .inv) _ (c .in-Break-check-entry .ensures tt) (c .loop-v-test .taken) in
     record {
       first-broken = value;
-      accepts-keeping = accepts ps (met .bounded x) (met .rises x) (met .keeps x) es _ value;
-      colours-win = wins ps (met .bounded x) (met .rises x) (met .keeps x) es _ value;
-      colours-unique = unique ps (met .bounded x) (met .rises x) (met .keeps x) es _ value;
+      accepts-keeping = accepts ps (met .bounded x) (met .monotone x) (met .keeps x) es _ value;
+      colours-win = wins ps (met .bounded x) (met .monotone x) (met .keeps x) es _ value;
+      colours-unique = unique ps (met .bounded x) (met .monotone x) (met .keeps x) es _ value;
     }
 
 pub returns : need.returns
@@ -54,7 +54,7 @@ returns g c =
     let value = told-none ps es (c .if-not-is-sized .ensures tt) _ (c .loop-v .inv) (c .loop-v .kept .v-end) (c .loop-v-test .left) in
     record {
       first-broken = value;
-      accepts-keeping = accepts ps (met .bounded x) (met .rises x) (met .keeps x) es _ value;
-      colours-win = wins ps (met .bounded x) (met .rises x) (met .keeps x) es _ value;
-      colours-unique = unique ps (met .bounded x) (met .rises x) (met .keeps x) es _ value;
+      accepts-keeping = accepts ps (met .bounded x) (met .monotone x) (met .keeps x) es _ value;
+      colours-win = wins ps (met .bounded x) (met .monotone x) (met .keeps x) es _ value;
+      colours-unique = unique ps (met .bounded x) (met .monotone x) (met .keeps x) es _ value;
     }

@@ -7,27 +7,27 @@ use Rattle.game.proofs.check.check_for.Needs as need
 
 pub returns-then-not-choice-fits : need.returns-then-not-choice-fits
 returns-then-not-choice-fits g c =
-    broken-is _ _ _ _ _ _ _ (same-is _ _ _ _ (c .eq-own .ensures) (c .place-of-place .ensures .owner)) refl (c .place-of-place .ensures .degree)
+    broken-is _ _ _ _ (c .pre .entry) _ _ _ _ (same-is _ _ _ _ (c .eq-own .ensures) (c .header-of-header .ensures .owner)) refl (c .header-of-header .ensures .move-count)
     _ _ _ _ (c .if-not-choice-fits .ensures tt) refl refl refl
 
 pub returns-then-not-moves : need.returns-then-not-moves
 returns-then-not-moves g c =
-    broken-is _ _ _ _ _ _ _ (same-is _ _ _ _ (c .eq-own .ensures) (c .place-of-place .ensures .owner)) refl (c .place-of-place .ensures .degree)
+    broken-is _ _ _ _ (c .pre .entry) _ _ _ _ (same-is _ _ _ _ (c .eq-own .ensures) (c .header-of-header .ensures .owner)) refl (c .header-of-header .ensures .move-count)
     _ _ _ _ (c .if-not-choice-fits .ensures tt) (sym (not-true _ (c .if-not-moves .taken)) ∙ c .rules-of-moves-moves .ensures .keeps-colour) refl refl
 
 pub returns-then-not-rank-fits : need.returns-then-not-rank-fits
 returns-then-not-rank-fits g c =
-    broken-is _ _ _ _ _ _ _ (same-is _ _ _ _ (c .eq-own .ensures) (c .place-of-place .ensures .owner)) (same-is _ _ _ _ (c .eq-home .ensures) (c .place-of-place .ensures .kind)) (c .place-of-place .ensures .degree)
+    broken-is _ _ _ _ (c .pre .entry) _ _ _ _ (same-is _ _ _ _ (c .eq-own .ensures) (c .header-of-header .ensures .owner)) (same-is _ _ _ _ (c .eq-same-kind .ensures) (c .header-of-header .ensures .kind)) (c .header-of-header .ensures .move-count)
     _ _ _ _ (c .if-not-choice-fits .ensures tt) (sym (not-false _ (c .if-not-moves .left)) ∙ c .rules-of-moves-moves .ensures .keeps-colour) (c .if-not-rank-fits .ensures tt) refl
 
 pub returns-then-not-falls : need.returns-then-not-falls
 returns-then-not-falls g c =
-    broken-is _ _ _ _ _ _ _ (same-is _ _ _ _ (c .eq-own .ensures) (c .place-of-place .ensures .owner)) (same-is _ _ _ _ (c .eq-home .ensures) (c .place-of-place .ensures .kind)) (c .place-of-place .ensures .degree)
+    broken-is _ _ _ _ (c .pre .entry) _ _ _ _ (same-is _ _ _ _ (c .eq-own .ensures) (c .header-of-header .ensures .owner)) (same-is _ _ _ _ (c .eq-same-kind .ensures) (c .header-of-header .ensures .kind)) (c .header-of-header .ensures .move-count)
     _ _ _ _ (c .if-not-choice-fits .ensures tt) (sym (not-false _ (c .if-not-moves .left)) ∙ c .rules-of-moves-moves .ensures .keeps-colour) (c .if-not-rank-fits .ensures tt)
-    (sym (c .if-not-falls .taken) ∙ ap (λ b. c .eq-home .result || b) (c .rules-of-moves-moves .ensures .rank-falls))
+    (sym (c .if-not-falls .taken) ∙ ap (λ b. c .eq-same-kind .result || b) (c .rules-of-moves-moves .ensures .rank-falls))
 
 pub returns : need.returns
 returns g c =
-    broken-is _ _ _ _ _ _ _ (same-is _ _ _ _ (c .eq-own .ensures) (c .place-of-place .ensures .owner)) (same-is _ _ _ _ (c .eq-home .ensures) (c .place-of-place .ensures .kind)) (c .place-of-place .ensures .degree)
+    broken-is _ _ _ _ (c .pre .entry) _ _ _ _ (same-is _ _ _ _ (c .eq-own .ensures) (c .header-of-header .ensures .owner)) (same-is _ _ _ _ (c .eq-same-kind .ensures) (c .header-of-header .ensures .kind)) (c .header-of-header .ensures .move-count)
     _ _ _ _ (c .if-not-choice-fits .ensures tt) (sym (not-false _ (c .if-not-moves .left)) ∙ c .rules-of-moves-moves .ensures .keeps-colour) (c .if-not-rank-fits .ensures tt)
-    (sym (c .if-not-falls .left) ∙ ap (λ b. c .eq-home .result || b) (c .rules-of-moves-moves .ensures .rank-falls))
+    (sym (c .if-not-falls .left) ∙ ap (λ b. c .eq-same-kind .result || b) (c .rules-of-moves-moves .ensures .rank-falls))

@@ -1,6 +1,6 @@
 use mathlib.Core.Path.{sym}
 use Rattle.std.proofs.shelf.Maps.{nth-getD, nth-past}
-use Rattle.games.proofs.spans.row_at.Needs as need
+use Rattle.games.proofs.row_rules.row_at.Needs as need
 
 pub returns-then-p-rows : need.returns-then-p-rows
 returns-then-p-rows c = sym (nth-getD _ _ _ (c .if-p-rows .taken))

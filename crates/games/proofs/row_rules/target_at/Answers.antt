@@ -1,5 +1,5 @@
 use Rattle.games.proofs.Targets.{span-read, span-past, span-cut}
-use Rattle.games.proofs.spans.target_at.Needs as need
+use Rattle.games.proofs.row_rules.target_at.Needs as need
 
 pub returns-then-k-row : need.returns-then-k-row
 returns-then-k-row c = span-past (c .args .targets .now) (c .args .row) _ (c .if-k-row .taken)

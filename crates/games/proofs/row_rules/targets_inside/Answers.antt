@@ -1,6 +1,6 @@
 use mathlib.Core.Path.{sym}
 use Rattle.game.proofs.Firsts.{all-none, all-step, all-stop}
-use Rattle.games.proofs.spans.targets_inside.Needs as need
+use Rattle.games.proofs.row_rules.targets_inside.Needs as need
 
 pub loop-t-holds : need.loop-t-holds
 loop-t-holds c = all-none _

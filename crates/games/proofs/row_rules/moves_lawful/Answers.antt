@@ -2,7 +2,7 @@ use mathlib.Core.Path.{sym}
 use Rattle.std.proofs.shelf.Tests.{ltb-true}
 use Rattle.game.proofs.Firsts.{all-none, all-step, all-stop, all-at}
 use Rattle.games.specs.Rows.{isInside}
-use Rattle.games.proofs.spans.moves_lawful.Needs as need
+use Rattle.games.proofs.row_rules.moves_lawful.Needs as need
 
 pub loop-t-holds : need.loop-t-holds
 loop-t-holds c = all-none _
