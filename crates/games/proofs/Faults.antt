@@ -8,7 +8,7 @@ use lib.Dec.{leb}
 use lib.ListN.{length, getD}
 use Rattle.std.specs.declared.option.Option.{Option}
 use Rattle.std.specs.declared.option.Option.the-variants.{Some, None}
-use Rattle.std.proofs.shelf.Tests.{cond-true, and-from, and-parts, le-leb, leb-true, ltb-true}
+use Rattle.std.proofs.shelf.Tests.{cond-true, and-parts, leb-true, ltb-true}
 use Rattle.std.proofs.shelf.Ways.{tells}
 use Rattle.game.specs.Laws.{mostPositions, mostMoves}
 use Rattle.game.specs.Refusals.{Refused, refusedAt}
@@ -19,9 +19,9 @@ use Rattle.games.specs.Rows.{spanOf, spanFits, isInside, keepsLaw, isLawful, r
 
 module _ (rs : List Row) (ts : List ℕ) where
   -- the fault of row i is the first
-  pub fault-first : (i : ℕ) (x : Refused) → length rs ≤ mostPositions → i < length rs → firstBelow (rowRefusal rs ts) i ≡ None → Some x ≡ rowRefusal rs ts i → Some x ≡ rowsRefusal rs ts
-  fault-first i x few h clear e =
-      sym (cond-true _ _ _ (and-from _ _ (le-leb 1 (length rs) (omega arith)) (le-leb (length rs) mostPositions few))
+  pub fault-first : (i : ℕ) (x : Refused) → true ≡ (leb 1 (length rs) && leb (length rs) mostPositions) → i < length rs → firstBelow (rowRefusal rs ts) i ≡ None → Some x ≡ rowRefusal rs ts i → Some x ≡ rowsRefusal rs ts
+  fault-first i x sized h clear e =
+      sym (cond-true _ _ _ (sym sized)
       ∙ first-found (rowRefusal rs ts) i (length rs) x clear (sym e) h)
 
   -- a row without a fault

@@ -1,10 +1,11 @@
 // The rules of the two lists that make a row game.
-ghost use mathlib.Core.Bool.{true};
+ghost use mathlib.Core.Bool.{true, _&&_};
 ghost use mathlib.Core.Path.{_≡_};
 ghost use Prim.Native.Nat.{_<_};
-ghost use lib.Dec.{ltb};
+ghost use lib.Dec.{leb, ltb};
 ghost use lib.ListN.{length};
 ghost use Rattle.std.specs.shelf.Maps.{nth};
+ghost use Rattle.game.specs.Laws.{mostPositions};
 ghost use Rattle.game.specs.First.{allBelow};
 ghost use Rattle.game.specs.Refusals.{told};
 ghost use Rattle.games.specs.Rows.{sideIn, spanOf, spanFits, isInside, keepsLaw, isLawful, rowRefusal, rowsRefusal, tells};
@@ -87,6 +88,13 @@ fn moves_lawful(rows: &[Row], row: Row, span: &[u16]) -> bool
     true
 }
 
+// Whether a game may have so many positions.
+fn is_count(count: usize) -> bool
+    ensures { λ r. ⌜ r ≡ (leb 1 count && leb count mostPositions) ⌝ }
+{
+    count >= 1 && count <= MOST_POSITIONS
+}
+
 // The fault of row `i`.
 fn row_fault(rows: &[Row], targets: &[u16], i: usize) -> Result<(), RowsFault>
     requires { ⌜ i < length (now rows) ⌝ }
@@ -112,7 +120,7 @@ fn row_fault(rows: &[Row], targets: &[u16], i: usize) -> Result<(), RowsFault>
 pub(crate) fn rows_fault(rows: &[Row], targets: &[u16]) -> Result<(), RowsFault>
     ensures { λ r. ⌜ told tells r ≡ rowsRefusal (now (rows .entry)) (now (targets .entry)) ⌝ }
 {
-    if rows.is_empty() || rows.len() > MOST_POSITIONS {
+    if !is_count(rows.len()) {
         return Err(RowsFault::Count);
     }
     for i in 0..rows.len() {

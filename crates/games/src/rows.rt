@@ -50,6 +50,13 @@ impl Rows {
         }
     }
 
+    // How many rows there are, and so positions.
+    fn row_count(&self) -> usize
+        ensures { λ r. ⌜ r ≡ length (meaningOf (vec-items (now (self .entry) .rows)) (vec-items (now (self .entry) .targets))) ⌝ }
+    {
+        self.rows.len()
+    }
+
     // Row `p`, and how the position is read off it.
     fn row(&self, p: usize) -> Option<Row>
         ensures { λ r. ⌜ ReadOff (vec-items (now (self .entry) .rows)) (vec-items (now (self .entry) .targets)) p r ⌝ }
@@ -72,7 +79,7 @@ pub impl Game for Rows as RowsGame {
     fn count(&self) -> usize
         ensures { λ r. ⌜ r ≡ length (meaningOf (vec-items (now (self .entry) .rows)) (vec-items (now (self .entry) .targets))) ⌝ }
     {
-        self.rows.len()
+        self.row_count()
     }
 
     fn owner(&self, p: usize) -> Option<Side>

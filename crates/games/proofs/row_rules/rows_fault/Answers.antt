@@ -18,4 +18,4 @@ pub returns-in-Break-row-fault : need.returns-in-Break-row-fault
 returns-in-Break-row-fault c =
     let out = err-from-errBy (c .from-residual .result) (c .from-residual .ensures .1) in
     ap (told tells) (out .1) ∙ ap (λ (e : RowsFault). Some (tells e)) (out .2)
-    ∙ fault-first _ _ (c .loop-i .i) _ (c .if-rows-gt-MOST-POSITIONS .left) (c .loop-i-test .taken) (c .loop-i .inv) (c .in-Break-row-fault .ensures tt)
+    ∙ fault-first _ _ (c .loop-i .i) _ (c .if-not-is-count .ensures tt) (c .loop-i-test .taken) (c .loop-i .inv) (c .in-Break-row-fault .ensures tt)
