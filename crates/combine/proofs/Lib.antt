@@ -1,2 +1,4 @@
 pub mod ByPosition
 pub mod Exchanges
+pub mod Parts
+pub mod Joins
