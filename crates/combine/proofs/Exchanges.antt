@@ -20,7 +20,7 @@ use Rattle.game.specs.Rules.{KeepsAt, KeepsRules}
 use Rattle.game.proofs.Answered.{leads-from}
 use Rattle.game.proofs.Kept.{accepted-keeps}
 use Rattle.game.proofs.Settled.{same-colours}
-use Rattle.combine.specs.Exchange.{exchangedPosition, exchanged, ColoursExchanged}
+use Rattle.combine.specs.Exchange.{exchangedPosition, exchanged, ColoursExchanged, AnswersExchanged}
 use Rattle.combine.proofs.ByPosition.{nth-map, getD-nth, getD-none}
 
 opposite-twice : (c : Side) → opposite (opposite c) ≡ c
@@ -149,6 +149,38 @@ module _ (ps : List Position) where
         let same = same-colours (exchanged ps) exchanged-lawful (exchangedSheet es) fs (exchanged-keeps es keeps) (accepted-keeps (exchanged ps) fs b) v (omega arith) in
         sym same ∙ exchanged-coloured es keeps v h c s
 
--- the answers of the exchanged game, by those of the game
-  exchanged-nth : (u : ℕ) → nth (exchanged ps) u ≡ mapped exchangedPosition (nth ps u)
-  exchanged-nth u = nth-map exchangedPosition ps u
+-- a list of positions and the exchanged one, read at one place
+owner-answer : (o : Option Position) → mapped (λ x. x .owner) (mapped exchangedPosition o) ≡ mapped opposite (mapped (λ x. x .owner) o)
+owner-answer None = refl
+owner-answer (Some x) = refl
+
+level-answer : (o : Option Position) → mapped (λ x. x .level) (mapped exchangedPosition o) ≡ mapped (λ x. x .level) o
+level-answer None = refl
+level-answer (Some x) = refl
+
+kind-answer : (o : Option Position) → mapped (λ x. x .kind) (mapped exchangedPosition o) ≡ mapped opposite (mapped (λ x. x .kind) o)
+kind-answer None = refl
+kind-answer (Some x) = refl
+
+degree-answer : (o : Option Position) → mapped (λ x. length (x .moves)) (mapped exchangedPosition o) ≡ mapped (λ x. length (x .moves)) o
+degree-answer None = refl
+degree-answer (Some x) = refl
+
+target-answer : (ps : List Position) (u k : ℕ) (o : Option Position) → nth ps u ≡ o → targetAt (exchanged ps) u k ≡ targetAt ps u k
+target-answer ps u k None e =
+    ap (λ (x : Position). nth (x .moves) k) (getD-none (exchanged ps) u blank (nth-map exchangedPosition ps u ∙ ap (mapped exchangedPosition) e) ∙ sym (getD-none ps u blank e))
+target-answer ps u k (Some x) e =
+    ap (λ (y : Position). nth (y .moves) k) (getD-nth (exchanged ps) u blank (exchangedPosition x) (nth-map exchangedPosition ps u ∙ ap (mapped exchangedPosition) e))
+    ∙ sym (ap (λ (y : Position). nth (y .moves) k) (getD-nth ps u blank x e))
+
+pub answers-exchanged : (ps : List Position) → AnswersExchanged ps
+answers-exchanged ps =
+    let read = nth-map exchangedPosition ps in
+    record {
+      count = exchanged-length ps;
+      owner = λ u. ap (mapped (λ x. x .owner)) (read u) ∙ owner-answer (nth ps u);
+      level = λ u. ap (mapped (λ x. x .level)) (read u) ∙ level-answer (nth ps u);
+      kind = λ u. ap (mapped (λ x. x .kind)) (read u) ∙ kind-answer (nth ps u);
+      degree = λ u. ap (mapped (λ x. length (x .moves))) (read u) ∙ degree-answer (nth ps u);
+      target = λ u k. target-answer ps u k (nth ps u) refl;
+    }

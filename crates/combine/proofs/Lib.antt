@@ -2,3 +2,4 @@ pub mod ByPosition
 pub mod Exchanges
 pub mod Parts
 pub mod Joins
+pub mod Pairings

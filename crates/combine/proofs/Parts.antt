@@ -4,16 +4,20 @@ use mathlib.Core.Path.{_≡_, refl, sym, ap, _∙_, subst}
 use Prim.Native.Nat.{ℕ, _+_, _<_, _≤_}
 use native.Mathlib.Omega.{arith}
 use lib.ListN.{length, getD, take, drop}
+use Rattle.std.specs.declared.option.Option.{Option}
+use Rattle.std.specs.declared.option.Option.the-variants.{Some, None}
+use Rattle.std.specs.Options.{mapped}
+use Rattle.std.specs.shelf.Maps.{nth}
 use Rattle.std.proofs.shelf.Lists.{length-map, length-take, length-drop, getD-map, getD-take, getD-drop}
 use Rattle.game.specs.declared.side.Side.{Side}
 use Rattle.game.specs.declared.sheet.Entry.{Entry}
-use Rattle.game.specs.Positions.{Position, position, degree, target, Leads}
+use Rattle.game.specs.Positions.{Position, blank, position, degree, target, Leads, ownerAt, levelAt, kindAt, degreeAt, targetAt}
 use Rattle.game.specs.Laws.{Lawful}
 use Rattle.game.specs.Sheets.{blankEntry, entryOf}
 use Rattle.game.specs.Rules.{KeepsAt, KeepsRules}
-use Rattle.game.proofs.Answered.{leads-from}
 use Rattle.game.proofs.Settled.{same-colours}
 use Rattle.combine.specs.Join.{shifted}
+use Rattle.combine.proofs.ByPosition.{nth-map, getD-nth, getD-none}
 
 -- the positions of ps are those of js from d on
 pub record Part (js ps : List Position) (d : ℕ) : Type 0 where
@@ -102,3 +106,46 @@ module _ (js ps : List Position) (d : ℕ) (part : Part js ps d) where
 
     pub part-colours : (es : List Entry) → KeepsRules ps es → (v : ℕ) → v < length ps → entryOf gs (d + v) .colour ≡ entryOf es v .colour
     part-colours es own v h = sym (ap (λ (e : Entry). e .colour) (entry-read v h)) ∙ same-colours ps lawful sheet es part-keeps own v h
+
+-- what a position answers after the shift
+owner-shifted : (d : ℕ) (o : Option Position) → mapped (λ x. x .owner) (mapped (shifted d) o) ≡ mapped (λ x. x .owner) o
+owner-shifted d None = refl
+owner-shifted d (Some x) = refl
+
+level-shifted : (d : ℕ) (o : Option Position) → mapped (λ x. x .level) (mapped (shifted d) o) ≡ mapped (λ l. 1 + l) (mapped (λ x. x .level) o)
+level-shifted d None = refl
+level-shifted d (Some x) = refl
+
+kind-shifted : (d : ℕ) (o : Option Position) → mapped (λ x. x .kind) (mapped (shifted d) o) ≡ mapped (λ x. x .kind) o
+kind-shifted d None = refl
+kind-shifted d (Some x) = refl
+
+degree-shifted : (d : ℕ) (o : Option Position) → mapped (λ x. length (x .moves)) (mapped (shifted d) o) ≡ mapped (λ x. length (x .moves)) o
+degree-shifted d None = refl
+degree-shifted d (Some x) = ap Some (length-map (x .moves) (λ t. d + t))
+
+-- position u of js is position v of ps, shifted
+module _ (js ps : List Position) (d u v : ℕ) (read : nth js u ≡ mapped (shifted d) (nth ps v)) where
+  pub owner-answer : ownerAt ps v ≡ ownerAt js u
+  owner-answer = sym (ap (mapped (λ x. x .owner)) read ∙ owner-shifted d (nth ps v))
+
+  pub level-answer : mapped (λ l. 1 + l) (levelAt ps v) ≡ levelAt js u
+  level-answer = sym (ap (mapped (λ x. x .level)) read ∙ level-shifted d (nth ps v))
+
+  pub kind-answer : kindAt ps v ≡ kindAt js u
+  kind-answer = sym (ap (mapped (λ x. x .kind)) read ∙ kind-shifted d (nth ps v))
+
+  pub degree-answer : degreeAt ps v ≡ degreeAt js u
+  degree-answer = sym (ap (mapped (λ x. length (x .moves))) read ∙ degree-shifted d (nth ps v))
+
+  pub target-answer : (k : ℕ) → mapped (λ t. d + t) (targetAt ps v k) ≡ targetAt js u k
+  target-answer k = by (nth ps v) refl
+    where
+      by : (o : Option Position) → nth ps v ≡ o → mapped (λ t. d + t) (targetAt ps v k) ≡ targetAt js u k
+      by None e =
+          ap (λ (x : Position). mapped (λ t. d + t) (nth (x .moves) k)) (getD-none ps v blank e)
+          ∙ sym (ap (λ (x : Position). nth (x .moves) k) (getD-none js u blank (read ∙ ap (mapped (shifted d)) e)))
+      by (Some x) e =
+          ap (λ (y : Position). mapped (λ t. d + t) (nth (y .moves) k)) (getD-nth ps v blank x e)
+          ∙ sym (nth-map (λ t. d + t) (x .moves) k)
+          ∙ sym (ap (λ (y : Position). nth (y .moves) k) (getD-nth js u blank (shifted d x) (read ∙ ap (mapped (shifted d)) e)))

@@ -30,9 +30,13 @@ headOf owner a b = record { owner = owner; level = 0; kind = Green; moves = a �
 abbrev pub joined : Side → List Position → ℕ → List Position → ℕ → List Position
 joined owner xs p ys q = headOf owner (1 + p) (1 + length xs + q) ∷ (map (shifted 1) xs ++ map (shifted (1 + length xs)) ys)
 
+-- Whether two games of n and m positions fit under one head.
+abbrev pub fits : ℕ → ℕ → Bool
+fits n m = leb (1 + n + m) mostPositions
+
 -- Why two games of n and m positions do not go under one head: p or q is not there, or there are too many positions. Nothing where they do.
 abbrev pub joinRefusal : ℕ → ℕ → ℕ → ℕ → Option Refused
-joinRefusal n p m q = unless (ltb p n && ltb q m) (refused 12) (unless (leb (1 + n + m) mostPositions) (refused 13) None)
+joinRefusal n p m q = unless (ltb p n && ltb q m) (refused 12) (unless (fits n m) (refused 13) None)
 
 -- How the colours of a sheet gs of the joined game go with those of sheets es and fs of the two games: positions have the colours that they have in
 -- their own game, and the head has its owner's exactly when p or q has it.
@@ -50,11 +54,13 @@ ColoursJoined owner xs p ys q = (es fs gs : List Entry) → checked xs es ≡ No
 abbrev pub startIn : ℕ → ℕ → ℕ
 startIn n p = cond (ltb p n) p 0
 
--- Whether two games of n and m positions fit under one head.
-abbrev pub fits : ℕ → ℕ → Bool
-fits n m = leb (1 + n + m) mostPositions
-
 -- A game from any two games and starts: the joined game where they fit, with 0 for a start that is not there; else the first alone. Where nothing is
 -- refused it is the joined game.
 unfoldable pub paired : Side → List Position → ℕ → List Position → ℕ → List Position
 paired owner xs p ys q = cond (fits (length xs) (length ys)) (joined owner xs (startIn (length xs) p) ys (startIn (length ys) q)) xs
+
+-- What is known of two games and starts where the answer is the refusal, if any: with none the game is the joined one, and the colours agree.
+pub record Judged (owner : Side) (xs : List Position) (p : ℕ) (ys : List Position) (q : ℕ) (answer : Option Refused) : Type 0 where
+  pub refusal : answer ≡ joinRefusal (length xs) p (length ys) q
+  pub meaning : answer ≡ None → paired owner xs p ys q ≡ joined owner xs p ys q
+  pub colours : answer ≡ None → ColoursJoined owner xs p ys q
