@@ -2,3 +2,4 @@
 pub mod row;
 mod row_rules;
 pub mod rows;
+pub mod swapped;
