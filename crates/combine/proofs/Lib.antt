@@ -3,3 +3,4 @@ pub mod Exchanges
 pub mod Parts
 pub mod Joins
 pub mod Pairings
+pub mod Bounds

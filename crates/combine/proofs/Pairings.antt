@@ -74,17 +74,20 @@ module _ (owner : Side) (xs : List Position) (p : ℕ) (ys : List Position) (q :
             (start-in (length xs) p (first .bounded .some)) (start-in (length ys) q (second .bounded .some)) (leb-true _ _ e))
         by false e = subst Lawful (sym (paired-alone e)) first
 
-    pub judged : (answer : Option Refused) → answer ≡ joinRefusal (length xs) p (length ys) q → Judged owner xs p ys q answer
-    judged answer e = record {
-      refusal = e;
+    pub judged : (n m : ℕ) → n ≡ length xs → m ≡ length ys → (answer : Option Refused) → answer ≡ joinRefusal n p m q → Judged owner xs p ys q answer
+    judged n m a b answer e = record {
+      refusal = is;
       meaning = λ none. let (starts, room) = facts none in
           paired-fits room ∙ ap (λ (v : ℕ). joined owner xs v ys (startIn (length ys) q)) (start-same _ p (starts .0)) ∙ ap (λ (v : ℕ). joined owner xs p ys v) (start-same _ q (starts .1));
       colours = λ none. let (starts, _) = facts none in colours-joined owner xs p ys q first second (starts .0) (starts .1);
     }
       where
+        is : answer ≡ joinRefusal (length xs) p (length ys) q
+        is = e ∙ ap (λ (n : ℕ). joinRefusal n p m q) a ∙ ap (λ (m : ℕ). joinRefusal (length xs) p m q) b
+
         facts : answer ≡ None → ((p < length xs) × (q < length ys)) × (fits (length xs) (length ys) ≡ true)
         facts none =
-            let (inside, later) = unless-none _ (refused 12) _ (sym e ∙ none) in
-            let (a, b) = and-parts _ _ inside in
+            let (inside, later) = unless-none _ (refused 12) _ (sym is ∙ none) in
+            let (left, right) = and-parts _ _ inside in
             let (room, _) = unless-none _ (refused 13) None later in
-            ((ltb-true _ _ a, ltb-true _ _ b), room)
+            ((ltb-true _ _ left, ltb-true _ _ right), room)
