@@ -23,7 +23,7 @@ use game::side::Side;
 // position `q` of the second. The head is position 0; the first game's positions follow, then the
 // second's.
 #[derive(Drop)]
-pub struct Pair<A, B> {
+pub struct Pair<A: Game, B: Game> {
     owner: Side,
     first: A,
     p: usize,
@@ -33,7 +33,7 @@ pub struct Pair<A, B> {
 
 // The two games as they were handed over, and why they make no pair.
 #[derive(Drop)]
-pub struct PairRefused<A, B> {
+pub struct PairRefused<A: Game, B: Game> {
     pub fault: PairFault,
     pub first: A,
     pub second: B,

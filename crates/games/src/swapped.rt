@@ -8,7 +8,7 @@ use game::side::Side;
 
 // A game with the sides exchanged in owner and kind alone. It owns the game.
 #[derive(Drop)]
-pub struct Swapped<G> {
+pub struct Swapped<G: Game> {
     game: G,
 }
 
