@@ -10,7 +10,7 @@ ghost use Rattle.std.specs.shelf.Maps.{nth};
 ghost use Rattle.game.specs.Positions.{ownerAt, levelAt, kindAt, degreeAt, targetAt};
 ghost use Rattle.game.specs.Laws.{mostPositions};
 ghost use Rattle.game.specs.Refusals.{told};
-ghost use Rattle.combine.specs.Join.{joined, joinRefusal, startIn, paired, ColoursJoined, Judged};
+ghost use Rattle.combine.specs.Join.{joined, fits, joinRefusal, startIn, paired, ColoursJoined, Judged};
 ghost use Rattle.games.specs.Pairs.{tells};
 ghost use Rattle.games.specs.Seats.{seatOf, countOf, Seated};
 use crate::pair_fault::PairFault;
@@ -39,6 +39,15 @@ pub struct PairRefused<A: Game, B: Game> {
     pub second: B,
 }
 
+// Whether games of `n` and `m` positions fit under one head.
+fn fit_under_head(n: usize, m: usize) -> bool
+    requires first { ⌜ n ≤ mostPositions ⌝ }
+    requires second { ⌜ m ≤ mostPositions ⌝ }
+    ensures { λ r. ⌜ r ≡ fits n m ⌝ }
+{
+    1 + n + m <= MOST_POSITIONS
+}
+
 // Why games of `n` and `m` positions make no pair with a head that leads to `p` and `q`.
 fn pair_fault(n: usize, p: usize, m: usize, q: usize) -> Result<(), PairFault>
     requires first { ⌜ n ≤ mostPositions ⌝ }
@@ -48,7 +57,7 @@ fn pair_fault(n: usize, p: usize, m: usize, q: usize) -> Result<(), PairFault>
     if p >= n || q >= m {
         return Err(PairFault::Absent);
     }
-    if 1 + n + m > MOST_POSITIONS {
+    if !fit_under_head(n, m) {
         return Err(PairFault::Count);
     }
     Ok(())
@@ -86,7 +95,7 @@ fn seat_of(n: usize, m: usize, u: usize) -> Seat
     requires second { ⌜ m ≤ mostPositions ⌝ }
     ensures { λ r. ⌜ r ≡ seatOf n m u ⌝ }
 {
-    if 1 + n + m > MOST_POSITIONS {
+    if !fit_under_head(n, m) {
         return Seat::Alone;
     }
     if u == 0 {
@@ -201,56 +210,56 @@ pub impl<A: Game, B: Game> Game for Pair<A, B> as PairGame {
         count_of(self.first.count(), self.second.count())
     }
 
-    fn owner(&self, p: usize) -> Option<Side>
-        ensures { λ r. ⌜ r ≡ ownerAt (paired (now (self .entry) .owner) (A·Game .meaning (now (self .entry) .first)) (now (self .entry) .p) (B·Game .meaning (now (self .entry) .second)) (now (self .entry) .q)) p ⌝ }
+    fn owner(&self, u: usize) -> Option<Side>
+        ensures { λ r. ⌜ r ≡ ownerAt (paired (now (self .entry) .owner) (A·Game .meaning (now (self .entry) .first)) (now (self .entry) .p) (B·Game .meaning (now (self .entry) .second)) (now (self .entry) .q)) u ⌝ }
     {
-        match self.seat(p) {
-            Seat::Alone => self.first.owner(p),
+        match self.seat(u) {
+            Seat::Alone => self.first.owner(u),
             Seat::Head => Some(self.owner),
             Seat::First(v) => self.first.owner(v),
             Seat::Second(v) => self.second.owner(v),
         }
     }
 
-    fn level(&self, p: usize) -> Option<usize>
-        ensures { λ r. ⌜ r ≡ levelAt (paired (now (self .entry) .owner) (A·Game .meaning (now (self .entry) .first)) (now (self .entry) .p) (B·Game .meaning (now (self .entry) .second)) (now (self .entry) .q)) p ⌝ }
+    fn level(&self, u: usize) -> Option<usize>
+        ensures { λ r. ⌜ r ≡ levelAt (paired (now (self .entry) .owner) (A·Game .meaning (now (self .entry) .first)) (now (self .entry) .p) (B·Game .meaning (now (self .entry) .second)) (now (self .entry) .q)) u ⌝ }
     {
-        match self.seat(p) {
-            Seat::Alone => self.first.level(p),
+        match self.seat(u) {
+            Seat::Alone => self.first.level(u),
             Seat::Head => Some(0),
             Seat::First(v) => level_above(&self.first, v),
             Seat::Second(v) => level_above(&self.second, v),
         }
     }
 
-    fn kind(&self, p: usize) -> Option<Side>
-        ensures { λ r. ⌜ r ≡ kindAt (paired (now (self .entry) .owner) (A·Game .meaning (now (self .entry) .first)) (now (self .entry) .p) (B·Game .meaning (now (self .entry) .second)) (now (self .entry) .q)) p ⌝ }
+    fn kind(&self, u: usize) -> Option<Side>
+        ensures { λ r. ⌜ r ≡ kindAt (paired (now (self .entry) .owner) (A·Game .meaning (now (self .entry) .first)) (now (self .entry) .p) (B·Game .meaning (now (self .entry) .second)) (now (self .entry) .q)) u ⌝ }
     {
-        match self.seat(p) {
-            Seat::Alone => self.first.kind(p),
+        match self.seat(u) {
+            Seat::Alone => self.first.kind(u),
             Seat::Head => Some(Side::Green),
             Seat::First(v) => self.first.kind(v),
             Seat::Second(v) => self.second.kind(v),
         }
     }
 
-    fn degree(&self, p: usize) -> Option<usize>
-        ensures { λ r. ⌜ r ≡ degreeAt (paired (now (self .entry) .owner) (A·Game .meaning (now (self .entry) .first)) (now (self .entry) .p) (B·Game .meaning (now (self .entry) .second)) (now (self .entry) .q)) p ⌝ }
+    fn degree(&self, u: usize) -> Option<usize>
+        ensures { λ r. ⌜ r ≡ degreeAt (paired (now (self .entry) .owner) (A·Game .meaning (now (self .entry) .first)) (now (self .entry) .p) (B·Game .meaning (now (self .entry) .second)) (now (self .entry) .q)) u ⌝ }
     {
-        match self.seat(p) {
-            Seat::Alone => self.first.degree(p),
+        match self.seat(u) {
+            Seat::Alone => self.first.degree(u),
             Seat::Head => Some(2),
             Seat::First(v) => self.first.degree(v),
             Seat::Second(v) => self.second.degree(v),
         }
     }
 
-    fn target(&self, p: usize, k: usize) -> Option<usize>
-        ensures { λ r. ⌜ r ≡ targetAt (paired (now (self .entry) .owner) (A·Game .meaning (now (self .entry) .first)) (now (self .entry) .p) (B·Game .meaning (now (self .entry) .second)) (now (self .entry) .q)) p k ⌝ }
+    fn target(&self, u: usize, k: usize) -> Option<usize>
+        ensures { λ r. ⌜ r ≡ targetAt (paired (now (self .entry) .owner) (A·Game .meaning (now (self .entry) .first)) (now (self .entry) .p) (B·Game .meaning (now (self .entry) .second)) (now (self .entry) .q)) u k ⌝ }
     {
         let n = self.first.count();
-        match self.seat(p) {
-            Seat::Alone => self.first.target(p, k),
+        match self.seat(u) {
+            Seat::Alone => self.first.target(u, k),
             Seat::Head => {
                 let m = self.second.count();
                 head_target(1 + start_in(n, self.p), 1 + n + start_in(m, self.q), k)
