@@ -5,7 +5,7 @@ use mathlib.Core.Path.{_≡_, refl, ap, sym, _∙_, subst}
 use Prim.Native.Nat.{ℕ, zero, suc, _+_, _<_, _≤_}
 use native.Mathlib.Numerals.{add-one}
 use native.Mathlib.Omega.{arith}
-use Rattle.std.proofs.shelf.Tests.{cases-eq, and-from, and-left, and-right}
+use Rattle.std.proofs.shelf.Tests.{both-ways, cases-eq, and-cases, and-from, and-left, and-right}
 use Rattle.std.proofs.shelf.Ways.{decides-below-and}
 use Rattle.std.specs.Options.{orOther}
 use Rattle.std.specs.Orderings.{Decides}
@@ -46,6 +46,14 @@ module _ (f : ℕ → Bool) where
 
   pub all-at : (n : ℕ) → allBelow f n ≡ true → (i : ℕ) → i < n → f i ≡ true
   all-at n e = all-decides f (λ k. f k ≡ true) (λ k. (λ t. t, λ t. t)) n .0 e
+
+  pub all-not : (n : ℕ) → allBelow f n ≡ false → (i : ℕ) × (i < n) × (f i ≡ false)
+  unfolding allBelow
+  all-not zero e = absurd (both-ways true e refl)
+  all-not (suc n) e = elim (and-cases (allBelow f n) (f n) e) [
+    | inl a ↦ let (i, l, h) = all-not n a in (i, omega arith, h)
+    | inr b ↦ (n, omega arith, b)
+  ]
 
 -- where there is no answer the test holds, and there is no later answer
 pub unless-none : {F : Type 0} (b : Bool) (x : F) (o : Option F) → unless b x o ≡ None → (b ≡ true) × (o ≡ None)

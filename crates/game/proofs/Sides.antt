@@ -8,6 +8,7 @@ use lib.Dec.{eqb}
 use Rattle.std.specs.declared.option.Option.{Option}
 use Rattle.std.specs.declared.option.Option.the-variants.{Some, None}
 use Rattle.std.specs.Orderings.{Decides}
+use Rattle.std.proofs.shelf.Tests.{both-ways}
 use Rattle.std.proofs.shelf.Ways.{tells}
 use Rattle.game.specs.declared.side.Side.{Side}
 use Rattle.game.specs.declared.side.Side.the-variants.{Green, Red}
@@ -58,3 +59,13 @@ side-decides c d x y P Q p q = elim (cases-side c d) [
   | inr e ↦ let s : cond (same c d) x y ≡ y = ap (λ b. cond b x y) (other-same c d e) in
       (λ t. (λ o. absurd (apart c (sym o ∙ e)), λ _. q .0 (sym s ∙ t)), λ h. s ∙ q .1 (h .1 e))
 ]
+
+pub same-true : (c d : Side) → same c d ≡ true → c ≡ d
+same-true c d e = elim (cases-side c d) [ inl h ↦ sym h | inr h ↦ absurd (both-ways _ (other-same c d h) e) ]
+
+-- a side that is not the one against k is k
+pub same-false : (k d : Side) → same (opposite k) d ≡ false → d ≡ k
+same-false Green Green e = refl
+same-false Green Red e = absurd (both-ways true e refl)
+same-false Red Green e = absurd (both-ways true e refl)
+same-false Red Red e = refl

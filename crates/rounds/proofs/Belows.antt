@@ -1,0 +1,93 @@
+-- Functions of the numbers below n.
+use mathlib.Core.Bool.{Bool, true, false, cond, _&&_, _||_}
+use mathlib.Core.Logic.{_⊎_, inl, inr}
+use mathlib.Core.Path.{_≡_, refl, ap, sym, _∙_, subst}
+use Prim.Native.Nat.{ℕ, zero, suc, max, _+_, _<_, _≤_}
+use native.Mathlib.Omega.{arith}
+use Rattle.std.specs.Orderings.{Decides}
+use Rattle.std.proofs.shelf.Tests.{cases-bool, cases-eq, cases-lt, both-ways, or-cases, or-left, or-right, cond-true, cond-false}
+use Rattle.std.proofs.shelf.Ways.{decides-below-or, decides-below-and, tells}
+use Rattle.game.specs.First.{allBelow}
+use Rattle.game.proofs.Firsts.{all-decides}
+use Rattle.rounds.specs.Below.{anyBelow, firstTrue, countBelow, sumBelow, maxBelow}
+
+or-swap : (a b : Bool) → (a || b) ≡ (b || a)
+or-swap true true = refl
+or-swap true false = refl
+or-swap false true = refl
+or-swap false false = refl
+
+pub any-decides : (f : ℕ → Bool) (P : ℕ → Type 0) → ((k : ℕ) → Decides (f k) (P k)) → (n : ℕ) → Decides (anyBelow f n) ((k : ℕ) × (k < n) × P k)
+unfolding anyBelow
+any-decides f P each n = decides-below-or f P (anyBelow f) each refl (λ m. or-swap (anyBelow f m) (f m)) n
+
+itself : (f : ℕ → Bool) (k : ℕ) → Decides (f k) (f k ≡ true)
+itself f k = (λ t. t, λ t. t)
+
+-- some number passes, and which
+pub any-at : (f : ℕ → Bool) (n : ℕ) → anyBelow f n ≡ true → (k : ℕ) × (k < n) × (f k ≡ true)
+any-at f n = any-decides f (λ k. f k ≡ true) (itself f) n .0
+
+pub any-from : (f : ℕ → Bool) (n k : ℕ) → k < n → f k ≡ true → anyBelow f n ≡ true
+any-from f n k h e = any-decides f (λ k. f k ≡ true) (itself f) n .1 (k, h, e)
+
+-- none passes
+pub any-not : (f : ℕ → Bool) (n : ℕ) → anyBelow f n ≡ false → (k : ℕ) → k < n → f k ≡ false
+any-not f n e k h = elim (cases-bool (f k)) [ inl t ↦ absurd (both-ways _ e (any-from f n k h t)) | inr t ↦ t ]
+
+-- tests that agree below n give the same
+pub any-same : (f g : ℕ → Bool) (n : ℕ) → ((k : ℕ) → k < n → f k ≡ g k) → anyBelow f n ≡ anyBelow g n
+unfolding anyBelow
+any-same f g zero h = refl
+any-same f g (suc n) h = let a = any-same f g n (λ k l. h k (omega arith)) in let b = h n (omega arith) in cc
+
+pub all-same : (f g : ℕ → Bool) (n : ℕ) → ((k : ℕ) → k < n → f k ≡ g k) → allBelow f n ≡ allBelow g n
+unfolding allBelow
+all-same f g zero h = refl
+all-same f g (suc n) h = let a = all-same f g n (λ k l. h k (omega arith)) in let b = h n (omega arith) in cc
+
+-- what the first number that passes is
+pub record FirstTrue (f : ℕ → Bool) (n k : ℕ) : Type 0 where
+  pub below : k < n
+  pub passes : f k ≡ true
+  pub before : (j : ℕ) → j < k → f j ≡ false
+
+pub first-true : (f : ℕ → Bool) (n : ℕ) → anyBelow f n ≡ true → FirstTrue f n (firstTrue f n)
+unfolding anyBelow firstTrue
+first-true f zero e = absurd (both-ways false refl e)
+first-true f (suc n) e = by (first-true f n) (anyBelow f n) refl e
+  where
+    by : (anyBelow f n ≡ true → FirstTrue f n (firstTrue f n)) → (b : Bool) → anyBelow f n ≡ b → (b || f n) ≡ true → FirstTrue f (suc n) (cond b (firstTrue f n) (cond (f n) n 0))
+    by more true a t = let r = more a in record { below = omega (arith, r .below); passes = r .passes; before = r .before }
+    by more false a t = subst (λ (x : ℕ). FirstTrue f (suc n) x) (sym (cond-true (f n) n 0 t)) (record { below = omega arith; passes = t; before = any-not f n a })
+
+-- counting
+pub count-most : (f : ℕ → Bool) (n : ℕ) → countBelow f n ≤ n
+unfolding countBelow
+count-most f zero = omega arith
+count-most f (suc n) = let a = count-most f n in elim (cases-bool (f n)) [ inl t ↦ let e = cond-true {A = ℕ} (f n) 1 0 t in omega arith | inr t ↦ let e = cond-false {A = ℕ} (f n) 1 0 t in omega arith ]
+
+step : (b c : Bool) → (b ≡ true → c ≡ true) → cond b 1 0 ≤ cond c 1 0
+step true c h = let e = cond-true {A = ℕ} c 1 0 (h refl) in omega arith
+step false c h = omega arith
+
+pub count-more : (f g : ℕ → Bool) (n : ℕ) → ((k : ℕ) → k < n → f k ≡ true → g k ≡ true) → countBelow f n ≤ countBelow g n
+unfolding countBelow
+count-more f g zero h = omega arith
+count-more f g (suc n) h = let a = count-more f g n (λ k l. h k (omega arith)) in let b = step (f n) (g n) (h n (omega arith)) in omega arith
+
+-- one more passes
+pub count-grows : (f g : ℕ → Bool) (n k : ℕ) → ((j : ℕ) → j < n → f j ≡ true → g j ≡ true) → k < n → f k ≡ false → g k ≡ true → countBelow f n < countBelow g n
+unfolding countBelow
+count-grows f g zero k h l a b = absurd (omega arith)
+count-grows f g (suc n) k h l a b = elim (cases-eq k n) [
+  | inl e ↦
+      let m = count-more f g n (λ j i. h j (omega arith)) in
+      let x = cond-false {A = ℕ} (f n) 1 0 (ap f (sym e) ∙ a) in
+      let y = cond-true {A = ℕ} (g n) 1 0 (ap g (sym e) ∙ b) in
+      omega arith
+  | inr e ↦
+      let m = count-grows f g n k (λ j i. h j (omega arith)) (omega arith) a b in
+      let x = step (f n) (g n) (h n (omega arith)) in
+      omega arith
+]

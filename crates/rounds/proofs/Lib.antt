@@ -1,0 +1,5 @@
+pub mod Belows
+pub mod Taking
+pub mod Levels
+pub mod Ranks
+pub mod Right

@@ -1,0 +1,100 @@
+-- The colouring by rounds, level by level from the highest down.
+use mathlib.Core.Bool.{Bool, true, false, cond, not, _&&_, _||_}
+use mathlib.Core.List.{List, map}
+use Prim.Native.Nat.{ℕ, zero, suc, _+_, _-_}
+use lib.Dec.{eqb, ltb}
+use lib.ListN.{length}
+use Rattle.std.specs.Iters.{counting}
+use Rattle.game.specs.declared.side.Side.{Side}
+use Rattle.game.specs.declared.sheet.Entry.{Entry}
+use Rattle.game.specs.Sides.{opposite, numberOf, same}
+use Rattle.game.specs.Positions.{Position, position, degree, target}
+use Rattle.game.specs.First.{allBelow}
+use Rattle.rounds.specs.Below.{anyBelow, firstTrue, countBelow, sumBelow, maxBelow}
+
+-- The side that the rounds give position v to: the one against its kind.
+abbrev pub taker : List Position → ℕ → Side
+taker ps v = opposite (position ps v .kind)
+
+-- Whether w is the taker of v's already: by its colour where w is in a higher level, else by being taken.
+abbrev pub already : List Position → (ℕ → Side) → (ℕ → Bool) → ℕ → ℕ → Bool
+already ps above taken v w = cond (ltb (position ps v .level) (position ps w .level)) (same (taker ps v) (above w)) (taken w)
+
+-- Whether move k of v leads to a position that is the taker's already.
+abbrev pub leadsAlready : List Position → (ℕ → Side) → (ℕ → Bool) → ℕ → ℕ → Bool
+leadsAlready ps above taken v k = already ps above taken v (target ps v k)
+
+-- Whether v is forced: the taker owns it and some move leads to a position that is the taker's already, or the other side owns it and every move does.
+abbrev pub forced : List Position → (ℕ → Side) → (ℕ → Bool) → ℕ → Bool
+forced ps above taken v = cond (same (taker ps v) (position ps v .owner)) (anyBelow (leadsAlready ps above taken v) (degree ps v)) (allBelow (leadsAlready ps above taken v) (degree ps v))
+
+-- Whether v is taken by the end of round r of its level, above giving the colours of higher levels: it was taken before, or is forced by what was.
+unfoldable pub takenBy : List Position → (ℕ → Side) → ℕ → ℕ → Bool
+takenBy ps above zero v = false
+takenBy ps above (suc r) v = takenBy ps above r v || forced ps above (takenBy ps above r) v
+
+-- The colour of v after the rounds of its level: the taker's if it was taken, else its kind. No more rounds add something than there are positions.
+abbrev pub colourBy : List Position → (ℕ → Side) → ℕ → Side
+colourBy ps above v = cond (takenBy ps above (length ps) v) (taker ps v) (position ps v .kind)
+
+-- The colours once the n highest levels are done: the level done last, and those above as they were.
+unfoldable pub coloursAfter : List Position → ℕ → ℕ → Side
+coloursAfter ps zero v = position ps v .kind
+coloursAfter ps (suc n) v = cond (eqb (position ps v .level + suc n) (length ps)) (colourBy ps (coloursAfter ps n) v) (coloursAfter ps n v)
+
+-- The colour of v: all levels are done.
+unfoldable pub colourOf : List Position → ℕ → Side
+colourOf ps v = coloursAfter ps (length ps) v
+
+-- Whether v is taken by the end of round r.
+abbrev pub taken : List Position → ℕ → ℕ → Bool
+taken ps r v = takenBy ps (colourOf ps) r v
+
+-- The first round, up to n, by whose end v is taken; 0 where there is none.
+unfoldable pub rankUpTo : List Position → (ℕ → Side) → ℕ → ℕ → ℕ
+rankUpTo ps above zero v = 0
+rankUpTo ps above (suc n) v = cond (takenBy ps above n v) (rankUpTo ps above n v) (cond (takenBy ps above (suc n) v) (suc n) 0)
+
+-- The rank of v: the round that took it, or 0.
+abbrev pub rankOf : List Position → ℕ → ℕ
+rankOf ps v = rankUpTo ps (colourOf ps) (length ps) v
+
+-- The choice at v, where its colour owns it: where v was taken, the first move to a position that was the taker's before that round; else the first move to a position of the same colour.
+abbrev pub choiceOf : List Position → ℕ → ℕ
+choiceOf ps v =
+    cond (same (colourOf ps v) (position ps v .owner))
+    (cond (taken ps (length ps) v)
+    (firstTrue (leadsAlready ps (colourOf ps) (taken ps (rankOf ps v - 1)) v) (degree ps v))
+    (firstTrue (λ k. same (colourOf ps v) (colourOf ps (target ps v k))) (degree ps v)))
+    0
+
+-- The entry of v.
+abbrev pub entryFor : List Position → ℕ → Entry
+entryFor ps v = record { colour = numberOf (colourOf ps v); choice = choiceOf ps v; rank = rankOf ps v }
+
+-- The colouring's sheet.
+abbrev pub colouring : List Position → List Entry
+colouring ps = map (entryFor ps) (counting 0 (length ps))
+
+-- Whether round r + 1 takes a position of level l.
+abbrev pub takesAt : List Position → ℕ → ℕ → ℕ → Bool
+takesAt ps l r v = eqb (position ps v .level) l && (taken ps (suc r) v && not (taken ps r v))
+
+abbrev pub adds : List Position → ℕ → ℕ → Bool
+adds ps l r = anyBelow (takesAt ps l r) (length ps)
+
+-- How many rounds of level l add something.
+abbrev pub roundsAt : List Position → ℕ → ℕ
+roundsAt ps l = countBelow (adds ps l) (length ps)
+
+-- How many rounds add something, over all levels.
+abbrev pub roundsOf : List Position → ℕ
+roundsOf ps = sumBelow (roundsAt ps) (length ps)
+
+-- The rank of v where it is in level l, else 0.
+abbrev pub rankIn : List Position → ℕ → ℕ → ℕ
+rankIn ps l v = cond (eqb (position ps v .level) l) (rankOf ps v) 0
+
+-- The sum over the levels of the highest rank.
+abbrev pub highestRanks : List Position → ℕ
+highestRanks ps = sumBelow (λ l. maxBelow (rankIn ps l) (length ps)) (length ps)
