@@ -1,39 +1,34 @@
--- A game's answers at a position that is there, and at a move that is there.
-use mathlib.Core.Bool.{true}
-use mathlib.Core.Path.{_≡_, ap, sym, _∙_}
-use mathlib.Core.List.{List}
+-- A game's answers, read at any number.
+use mathlib.Core.Path.{_≡_, refl, ap}
+use mathlib.Core.List.{List, [], _∷_}
 use mathlib.Core.Logic.{inl, inr}
-use Prim.Native.Nat.{ℕ, _<_}
+use Prim.Native.Nat.{ℕ, zero, suc, _<_}
 use native.Mathlib.Omega.{arith}
-use lib.ListN.{length}
-use Rattle.std.specs.declared.option.Option.{Option}
-use Rattle.std.specs.declared.option.Option.the-variants.{Some, None}
-use Rattle.std.specs.Options.{isSome, mapped}
+use lib.ListN.{length, getD}
+use Rattle.std.specs.Options.{mapped, valueOr}
 use Rattle.std.specs.shelf.Maps.{nth}
 use Rattle.std.proofs.shelf.Lists.{getD-past}
-use Rattle.std.proofs.shelf.Maps.{nth-getD}
 use Rattle.std.proofs.shelf.Tests.{cases-lt}
-use Rattle.game.specs.Positions.{Position, blank, position, degree, target, targetAt, Leads}
+use Rattle.game.specs.Positions.{Position, blank, position, degree, target, Leads}
+use Rattle.game.specs.Laws.{Bounded}
 
-module _ {X : Type 0} (f : Position → X) (ps : List Position) (v : ℕ) (h : v < length ps) (o : Option X) (e : o ≡ mapped f (nth ps v)) where
-  there : o ≡ Some (f (position ps v))
-  there = e ∙ ap (mapped f) (nth-getD ps v blank h)
+-- an answer, or what the blank position has
+pub read-or : {X : Type 0} (f : Position → X) (ps : List Position) (v : ℕ) → valueOr (mapped f (nth ps v)) (f blank) ≡ f (position ps v)
+read-or f [] v = refl
+read-or f (p ∷ ps) zero = refl
+read-or f (p ∷ ps) (suc v) = read-or f ps v
 
-  pub answer-some : isSome o ≡ true
-  answer-some = ap isSome there
+pub nth-or : (xs : List ℕ) (k : ℕ) → valueOr (nth xs k) 0 ≡ getD xs k 0
+nth-or [] k = refl
+nth-or (x ∷ xs) zero = refl
+nth-or (x ∷ xs) (suc k) = nth-or xs k
 
-  pub answer-is : (x : X) → o ≡ Some x → x ≡ f (position ps v)
-  answer-is x s = let t = there in cc
-
-module _ (ps : List Position) (v k : ℕ) (h : k < degree ps v) (o : Option ℕ) (e : o ≡ targetAt ps v k) where
-  led : o ≡ Some (target ps v k)
-  led = e ∙ nth-getD (position ps v .moves) k 0 h
-
-  pub target-some : isSome o ≡ true
-  target-some = ap isSome led
-
-  pub target-is : (w : ℕ) → o ≡ Some w → w ≡ target ps v k
-  target-is w s = let t = led in cc
+-- a target is a position, also that of a move that is not there
+pub target-within : (ps : List Position) → Bounded ps → (v k : ℕ) → target ps v k < length ps
+target-within ps bounded v k = elim (cases-lt k (degree ps v)) [
+  | inl h ↦ bounded .targets v k (target ps v k) (record { there = h; to = refl })
+  | inr h ↦ let e = getD-past (position ps v .moves) k 0 h in let s = bounded .some in omega arith
+]
 
 -- a position that has a move is there
 pub leads-from : (ps : List Position) (u k w : ℕ) → Leads ps u k w → u < length ps

@@ -37,16 +37,17 @@ module _ (ps : List Position) (es : List Entry) where
         let end : length ps ≡ v = omega arith in
         sym (cond-true _ _ _ (sym sized) ∙ ap (firstBelow (refusedBy ps es)) end ∙ clear)
 
--- what follows from the value
-module _ (ps : List Position) (bounded : Bounded ps) (monotone : Monotone ps) (keeps : KeepsKind ps) (es : List Entry) (answer : Option Refused) (is : answer ≡ checked ps es) where
-  lawful : Lawful ps
-  lawful = record { bounded = bounded; monotone = monotone; keeps-kind = keeps }
+-- the bounds and both laws, together
+pub lawful : {ps : List Position} → Bounded ps → Monotone ps → KeepsKind ps → Lawful ps
+lawful b m k = record { bounded = b; monotone = m; keeps-kind = k }
 
+-- what follows from the value
+module _ (ps : List Position) (law : Lawful ps) (es : List Entry) (answer : Option Refused) (is : answer ≡ checked ps es) where
   pub accepts : AcceptsKeeping ps es answer
   accepts = record { sound = λ n. accepted-keeps ps es (sym is ∙ n); complete = λ k. is ∙ keeps-accepted ps es k }
 
   pub wins : answer ≡ None → Settles ps es
-  wins n = settled ps lawful es (accepted-keeps ps es (sym is ∙ n))
+  wins n = settled ps law es (accepted-keeps ps es (sym is ∙ n))
 
   pub unique : answer ≡ None → UniqueColours ps es
-  unique n fs m = same-colours ps lawful es fs (accepted-keeps ps es (sym is ∙ n)) (accepted-keeps ps fs m)
+  unique n fs m = same-colours ps law es fs (accepted-keeps ps es (sym is ∙ n)) (accepted-keeps ps fs m)

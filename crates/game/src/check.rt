@@ -6,11 +6,16 @@ ghost use lib.Dec.{eqb};
 ghost use lib.ListN.{length};
 ghost use Rattle.std.specs.declared.option.Option.the-variants.{None};
 ghost use Rattle.std.specs.Options.{mapped};
-ghost use Rattle.game.specs.Positions.{position, degree, target};
+ghost use Rattle.game.specs.Positions.{position, degree};
 ghost use Rattle.game.specs.Sheets.{entryOf, Settles};
 ghost use Rattle.game.specs.Refusals.{refusedAt, tells, told};
 ghost use Rattle.game.specs.Checking.{choiceFits, eachCounting, keepsColour, rankFits, rankFalls, brokenFor, refusedBy, checked, AcceptsKeeping, UniqueColours};
 use crate::arena::Game;
+use crate::reads::degree_of;
+use crate::reads::kind_of;
+use crate::reads::level_of;
+use crate::reads::owner_of;
+use crate::reads::target_of;
 use crate::refusal::Refusal;
 use crate::sheet::Entry;
 use crate::side::Side;
@@ -50,36 +55,18 @@ fn rank_fits(same_kind: bool, rank: u16) -> bool
     if same_kind { rank == 0 } else { rank >= 1 }
 }
 
-// The level of `v`, a position of the game.
-fn level_of<G: Game>(game: &G, v: usize) -> usize
-    requires { ⌜ v < length (G·Game .meaning (now game)) ⌝ }
-    ensures { λ r. ⌜ r ≡ position (G·Game .meaning (now (game .entry))) v .level ⌝ }
-{
-    game.level(v).unwrap()
-}
-
-// Where `k`, a move of `v`, leads.
-fn target_of<G: Game>(game: &G, v: usize, k: usize) -> usize
-    requires { ⌜ k < degree (G·Game .meaning (now game)) v ⌝ }
-    ensures value { λ r. ⌜ r ≡ target (G·Game .meaning (now (game .entry))) v k ⌝ }
-    ensures bound { λ r. ⌜ r < length (G·Game .meaning (now (game .entry))) ⌝ }
-{
-    game.target(v, k).unwrap()
-}
-
-// The parts of `v`, a position of the game.
+// The parts of `v`.
 fn header_of<G: Game>(game: &G, v: usize) -> Header
-    requires { ⌜ v < length (G·Game .meaning (now game)) ⌝ }
     ensures owner { λ r. ⌜ r .owner ≡ position (G·Game .meaning (now (game .entry))) v .owner ⌝ }
     ensures level { λ r. ⌜ r .level ≡ position (G·Game .meaning (now (game .entry))) v .level ⌝ }
     ensures kind { λ r. ⌜ r .kind ≡ position (G·Game .meaning (now (game .entry))) v .kind ⌝ }
     ensures move_count { λ r. ⌜ r .«move_count» ≡ degree (G·Game .meaning (now (game .entry))) v ⌝ }
 {
     Header {
-        owner: game.owner(v).unwrap(),
+        owner: owner_of(game, v),
         level: level_of(game, v),
-        kind: game.kind(v).unwrap(),
-        move_count: game.degree(v).unwrap(),
+        kind: kind_of(game, v),
+        move_count: degree_of(game, v),
     }
 }
 

@@ -3,6 +3,7 @@ use mathlib.Core.Bool.{Bool, true, false, cond, _&&_, _||_}
 use mathlib.Core.Logic.{_⊎_, inl, inr}
 use mathlib.Core.Path.{_≡_, refl, ap, sym, _∙_, subst}
 use Prim.Native.Nat.{ℕ, zero, suc, max, _+_, _<_, _≤_}
+use native.Mathlib.Numerals.{add-one}
 use native.Mathlib.Omega.{arith}
 use Rattle.std.specs.Orderings.{Decides}
 use Rattle.std.proofs.shelf.Tests.{cases-bool, cases-eq, cases-lt, both-ways, or-cases, or-left, or-right, cond-true, cond-false}
@@ -20,6 +21,14 @@ or-swap false false = refl
 pub any-decides : (f : ℕ → Bool) (P : ℕ → Type 0) → ((k : ℕ) → Decides (f k) (P k)) → (n : ℕ) → Decides (anyBelow f n) ((k : ℕ) × (k < n) × P k)
 unfolding anyBelow
 any-decides f P each n = decides-below-or f P (anyBelow f) each refl (λ m. or-swap (anyBelow f m) (f m)) n
+
+pub any-none : (f : ℕ → Bool) → anyBelow f 0 ≡ false
+unfolding anyBelow
+any-none f = refl
+
+pub any-more : (f : ℕ → Bool) (n : ℕ) → anyBelow f (n + 1) ≡ (anyBelow f n || f n)
+unfolding anyBelow
+any-more f n = ap (anyBelow f) (add-one n)
 
 itself : (f : ℕ → Bool) (k : ℕ) → Decides (f k) (f k ≡ true)
 itself f k = (λ t. t, λ t. t)
@@ -91,3 +100,38 @@ count-grows f g (suc n) k h l a b = elim (cases-eq k n) [
       let x = step (f n) (g n) (h n (omega arith)) in
       omega arith
 ]
+
+pub count-none : (f : ℕ → Bool) → countBelow f 0 ≡ 0
+unfolding countBelow
+count-none f = refl
+
+-- all so far pass
+pub count-full : (f : ℕ → Bool) (n : ℕ) → countBelow f n ≡ n → f n ≡ true → countBelow f (n + 1) ≡ n + 1
+unfolding countBelow
+count-full f n e t = ap (countBelow f) (add-one n) ∙ ap (λ (x : ℕ). x + cond (f n) 1 0) e ∙ ap (λ (x : ℕ). n + x) (cond-true {A = ℕ} (f n) 1 0 t)
+
+-- and none after
+pub count-stop : (f : ℕ → Bool) (n m : ℕ) → countBelow f n ≡ n → n ≤ m → ((j : ℕ) → n ≤ j → j < m → f j ≡ false) → countBelow f m ≡ n
+unfolding countBelow
+count-stop f n zero e h none = let z : 0 ≡ n = omega arith in z
+count-stop f n (suc m) e h none = elim (cases-eq n (suc m)) [
+  | inl s ↦ ap (countBelow f) (sym s) ∙ e
+  | inr s ↦ let a = count-stop f n m e (omega arith) (λ j a b. none j a (omega arith)) in let b = cond-false {A = ℕ} (f m) 1 0 (none m (omega arith) (omega arith)) in omega arith
+]
+
+pub any-false : (f : ℕ → Bool) (n : ℕ) → ((k : ℕ) → k < n → f k ≡ false) → anyBelow f n ≡ false
+any-false f n h = elim (cases-bool (anyBelow f n)) [ inl t ↦ let (k, l, e) = any-at f n t in absurd (both-ways _ (h k l) e) | inr t ↦ t ]
+
+-- the first number that passes, as a loop finds it
+pub first-found : (f : ℕ → Bool) (k n : ℕ) → anyBelow f k ≡ false → f k ≡ true → k < n → firstTrue f n ≡ k
+unfolding anyBelow firstTrue
+first-found f k zero a e l = absurd (omega arith)
+first-found f k (suc n) a e l = elim (cases-eq k n) [
+  | inl s ↦ let b = ap (anyBelow f) (sym s) ∙ a in cond-false (anyBelow f n) _ _ b ∙ cond-true (f n) n 0 (ap f (sym s) ∙ e) ∙ sym s
+  | inr s ↦ cond-true (anyBelow f n) _ _ (any-from f n k (omega arith) e) ∙ first-found f k n a e (omega arith)
+]
+
+pub first-none : (f : ℕ → Bool) (n : ℕ) → anyBelow f n ≡ false → firstTrue f n ≡ 0
+unfolding firstTrue
+first-none f zero a = refl
+first-none f (suc n) a = cond-false (anyBelow f n) _ _ (any-false f n (λ k l. any-not f (suc n) a k (omega arith))) ∙ cond-false (f n) n 0 (any-not f (suc n) a n (omega arith))

@@ -6,7 +6,7 @@ use mathlib.Core.Path.{_≡_, refl, ap, sym, _∙_, subst}
 use Prim.Native.Nat.{ℕ, zero, suc, _+_, _-_, _<_, _≤_}
 use native.Mathlib.Omega.{arith}
 use lib.Dec.{leb}
-use Rattle.std.proofs.shelf.Tests.{cases-bool, cases-lt, both-ways, cond-true, cond-false, le-leb, lt-leb, and-from, and-left, and-right}
+use Rattle.std.proofs.shelf.Tests.{cases-bool, cases-eq, cases-lt, both-ways, cond-true, cond-false, le-leb, lt-leb, and-from, and-left, and-right}
 use Rattle.game.specs.declared.side.Side.{Side}
 use Rattle.game.specs.Positions.{Position}
 use Rattle.rounds.specs.Rounds.{takenBy, rankUpTo}
@@ -50,4 +50,15 @@ module _ (ps : List Position) (above : ℕ → Side) where
           | inl b ↦ not-earlier ps above r (rankUpTo ps above n v - 1) v (omega arith) (k .before) ∙ sym (and-right _ _ (lt-leb _ _ b))
           | inr b ↦ taken-later ps above (rankUpTo ps above n v) r v b (k .by) ∙ sym (and-from _ _ (le-leb _ _ (k .some)) (le-leb _ _ b))
         ]
+  ]
+
+  -- where nothing was taken since round n, the rank is that by round n
+  pub rank-later : (n m v : ℕ) → n ≤ m → takenBy ps above m v ≡ takenBy ps above n v → rankUpTo ps above m v ≡ rankUpTo ps above n v
+  rank-later n zero v h e = ap (λ (x : ℕ). rankUpTo ps above x v) (let z : 0 ≡ n = omega arith in z)
+  rank-later n (suc m) v h e = elim (cases-eq n (suc m)) [
+    | inl s ↦ ap (λ (x : ℕ). rankUpTo ps above x v) (sym s)
+    | inr s ↦ elim (cases-bool (takenBy ps above n v)) [
+        | inl t ↦ let u = taken-later ps above n m v (omega arith) t in rank-kept m v u ∙ rank-later n m v (omega arith) (u ∙ sym t)
+        | inr t ↦ rank-none (suc m) v (e ∙ t) ∙ sym (rank-none n v t)
+      ]
   ]

@@ -23,7 +23,7 @@ use Rattle.game.specs.First.{allBelow}
 use Rattle.game.proofs.Sides.{cases-side, apart, own-same, other-same, same-true, same-false}
 use Rattle.game.proofs.Firsts.{all-at, all-not}
 use Rattle.rounds.specs.Below.{anyBelow, firstTrue}
-use Rattle.rounds.specs.Rounds.{taker, already, leadsAlready, forced, takenBy, taken, colourOf, rankOf, choiceOf, entryFor, colouring}
+use Rattle.rounds.specs.Rounds.{taker, already, leadsAlready, forced, takenBy, taken, colourOf, rankOf, suits, choiceOf, entryFor, colouring}
 use Rattle.rounds.proofs.Belows.{any-at, any-from, any-not, first-true}
 use Rattle.rounds.proofs.Taking.{taken-next, taken-later, taken-enough}
 use Rattle.rounds.proofs.Levels.{colour-taken, colour-left}
@@ -103,9 +103,15 @@ module _ (ps : List Position) (lawful : Lawful ps) (v : ℕ) (h : v < length ps)
     every-move : position ps v .owner ≡ opposite (taker ps v) → (k : ℕ) → k < degree ps v → leadsAlready ps (colourOf ps) (taken ps round) v k ≡ true
     every-move o = all-at (leadsAlready ps (colourOf ps) (taken ps round) v) (degree ps v) (sym (cond-false _ _ _ (other-same (taker ps v) _ o)) ∙ forced-then)
 
-    choice-own : position ps v .owner ≡ taker ps v → choiceOf ps v ≡ firstTrue (leadsAlready ps (colourOf ps) (taken ps round) v) (degree ps v)
+    suits-led : (k : ℕ) → suits ps v k ≡ leadsAlready ps (colourOf ps) (taken ps round) v k
     unfolding round
-    choice-own o = cond-true _ _ _ (own-same (colourOf ps v) _ (o ∙ sym (colour-taken ps lawful v h t))) ∙ cond-true _ _ _ t
+    suits-led k = cond-true _ _ _ t
+
+    some-suits : position ps v .owner ≡ taker ps v → anyBelow (suits ps v) (degree ps v) ≡ true
+    some-suits o = let (k, b, e) = any-at (leadsAlready ps (colourOf ps) (taken ps round) v) (degree ps v) (some-move o) in any-from (suits ps v) (degree ps v) k b (suits-led k ∙ e)
+
+    choice-own : position ps v .owner ≡ taker ps v → choiceOf ps v ≡ firstTrue (suits ps v) (degree ps v)
+    choice-own o = cond-true _ _ _ (own-same (colourOf ps v) _ (o ∙ sym (colour-taken ps lawful v h t)))
 
     choice-other : position ps v .owner ≡ opposite (taker ps v) → choiceOf ps v ≡ 0
     choice-other o = cond-false _ _ _ (other-same (colourOf ps v) _ (o ∙ ap opposite (sym (colour-taken ps lawful v h t))))
@@ -113,7 +119,7 @@ module _ (ps : List Position) (lawful : Lawful ps) (v : ℕ) (h : v < length ps)
     -- a move that counts leads to a position that was the taker's already
     counted : (k : ℕ) → k < degree ps v → (position ps v .owner ≡ taker ps v → k ≡ choiceOf ps v) → leadsAlready ps (colourOf ps) (taken ps round) v k ≡ true
     counted k b n = elim (cases-side (taker ps v) (position ps v .owner)) [
-      | inl o ↦ let f = first-true (leadsAlready ps (colourOf ps) (taken ps round) v) (degree ps v) (some-move o) in subst (λ (x : ℕ). leadsAlready ps (colourOf ps) (taken ps round) v x ≡ true) (sym (n o ∙ choice-own o)) (f .passes)
+      | inl o ↦ let f = first-true (suits ps v) (degree ps v) (some-suits o) in sym (suits-led k) ∙ subst (λ (x : ℕ). suits ps v x ≡ true) (sym (n o ∙ choice-own o)) (f .passes)
       | inr o ↦ every-move o k b
     ]
 
@@ -139,16 +145,22 @@ module _ (ps : List Position) (lawful : Lawful ps) (v : ℕ) (h : v < length ps)
         let (k, b, e) = all-not (leadsAlready ps (colourOf ps) (taken ps (length ps)) v) (degree ps v) (sym (cond-false _ _ _ (other-same (taker ps v) _ (o ∙ sym (twice (position ps v .kind))))) ∙ unforced) in
         any-from same-colour (degree ps v) k b (kept-colour k b e)
 
-    choice-kept : position ps v .owner ≡ position ps v .kind → choiceOf ps v ≡ firstTrue same-colour (degree ps v)
+    suits-same : (k : ℕ) → suits ps v k ≡ same-colour k
     unfolding same-colour
-    choice-kept o = cond-true _ _ _ (own-same (colourOf ps v) _ (o ∙ sym colour-kind)) ∙ cond-false _ _ _ t
+    suits-same k = cond-false _ _ _ t
+
+    some-suited : position ps v .owner ≡ position ps v .kind → anyBelow (suits ps v) (degree ps v) ≡ true
+    some-suited o = let (k, b, e) = any-at same-colour (degree ps v) (some-kept o) in any-from (suits ps v) (degree ps v) k b (suits-same k ∙ e)
+
+    choice-kept : position ps v .owner ≡ position ps v .kind → choiceOf ps v ≡ firstTrue (suits ps v) (degree ps v)
+    choice-kept o = cond-true _ _ _ (own-same (colourOf ps v) _ (o ∙ sym colour-kind))
 
     choice-none : position ps v .owner ≡ opposite (position ps v .kind) → choiceOf ps v ≡ 0
     choice-none o = cond-false _ _ _ (other-same (colourOf ps v) _ (o ∙ ap opposite (sym colour-kind)))
 
     counted-kept : (k : ℕ) → k < degree ps v → (position ps v .owner ≡ position ps v .kind → k ≡ choiceOf ps v) → same-colour k ≡ true
     counted-kept k b n = elim (cases-side (position ps v .kind) (position ps v .owner)) [
-      | inl o ↦ let f = first-true same-colour (degree ps v) (some-kept o) in subst (λ (x : ℕ). same-colour x ≡ true) (sym (n o ∙ choice-kept o)) (f .passes)
+      | inl o ↦ let f = first-true (suits ps v) (degree ps v) (some-suited o) in sym (suits-same k) ∙ subst (λ (x : ℕ). suits ps v x ≡ true) (sym (n o ∙ choice-kept o)) (f .passes)
       | inr o ↦ kept-colour k b (any-not (leadsAlready ps (colourOf ps) (taken ps (length ps)) v) (degree ps v) (sym (cond-true _ _ _ (own-same (taker ps v) _ o)) ∙ unforced) k b)
     ]
 
@@ -158,8 +170,8 @@ module _ (ps : List Position) (lawful : Lawful ps) (v : ℕ) (h : v < length ps)
 
   choice-fits : position ps v .owner ≡ c → choiceOf ps v < degree ps v
   choice-fits o = elim (cases-bool (taken ps (length ps) v)) [
-    | inl t ↦ let p = o ∙ colour-taken ps lawful v h t in let f = first-true _ (degree ps v) (some-move t p) in let e = choice-own t p in omega (arith, f .below, e)
-    | inr t ↦ let p = o ∙ colour-left ps lawful v h t in let f = first-true _ (degree ps v) (some-kept t p) in let e = choice-kept t p in omega (arith, f .below, e)
+    | inl t ↦ let p = o ∙ colour-taken ps lawful v h t in let f = first-true (suits ps v) (degree ps v) (some-suits t p) in let e = choice-own t p in omega (arith, f .below, e)
+    | inr t ↦ let p = o ∙ colour-left ps lawful v h t in let f = first-true (suits ps v) (degree ps v) (some-suited t p) in let e = choice-kept t p in omega (arith, f .below, e)
   ]
 
   choice-zero : position ps v .owner ≡ opposite c → choiceOf ps v ≡ 0

@@ -15,7 +15,7 @@ use Rattle.game.specs.Positions.{Position, position, degree, target, Leads}
 use Rattle.game.specs.Laws.{Lawful}
 use Rattle.rounds.specs.Below.{anyBelow, countBelow}
 use Rattle.rounds.specs.Rounds.{taker, already, leadsAlready, forced, takenBy}
-use Rattle.rounds.proofs.Belows.{any-at, any-from, any-not, any-same, all-same, count-most, count-grows}
+use Rattle.rounds.proofs.Belows.{any-at, any-false, any-from, any-not, any-same, all-same, count-most, count-grows}
 
 -- two readings of the same level agree
 pub record Agree (ps : List Position) (l : ℕ) (f g : ℕ → Bool) : Type 0 where
@@ -105,16 +105,20 @@ module _ (ps : List Position) (lawful : Lawful ps) (above : ℕ → Side) (l : �
   abbrev pub takes : ℕ → ℕ → Bool
   takes r v = eqb (position ps v .level) l && (takenBy ps above (suc r) v && not (takenBy ps above r v))
 
-  pub still-if : (r : ℕ) → anyBelow (takes r) (length ps) ≡ false → Still ps above l r
-  still-if r e = record { at = λ w h s. by w h s (takenBy ps above r w) refl (takenBy ps above (suc r) w) refl }
+  -- a position of the level that round r + 1 does not take stays as it was
+  pub not-taking : (r w : ℕ) → position ps w .level ≡ l → takes r w ≡ false → takenBy ps above (suc r) w ≡ takenBy ps above r w
+  not-taking r w s e = by (takenBy ps above r w) refl (takenBy ps above (suc r) w) refl
     where
-      by : (w : ℕ) → w < length ps → position ps w .level ≡ l → (a : Bool) → takenBy ps above r w ≡ a → (b : Bool) → takenBy ps above (suc r) w ≡ b → takenBy ps above (suc r) w ≡ takenBy ps above r w
-      by w h s true p b q = taken-more ps above r w p ∙ sym p
-      by w h s false p false q = q ∙ sym p
-      by w h s false p true q = absurd (both-ways _ (any-not (takes r) (length ps) e w h) (and-from _ _ (eq-eqb _ _ s) (and-from _ _ q (not-from-false _ p))))
+      by : (a : Bool) → takenBy ps above r w ≡ a → (b : Bool) → takenBy ps above (suc r) w ≡ b → takenBy ps above (suc r) w ≡ takenBy ps above r w
+      by true p b q = taken-more ps above r w p ∙ sym p
+      by false p false q = q ∙ sym p
+      by false p true q = absurd (both-ways _ e (and-from _ _ (eq-eqb _ _ s) (and-from _ _ q (not-from-false _ p))))
+
+  pub still-if : (r : ℕ) → anyBelow (takes r) (length ps) ≡ false → Still ps above l r
+  still-if r e = record { at = λ w h s. not-taking r w s (any-not (takes r) (length ps) e w h) }
 
   -- what a round that takes v says of it
-  taking : (r v : ℕ) → takes r v ≡ true → (position ps v .level ≡ l) × (takenBy ps above (suc r) v ≡ true) × (takenBy ps above r v ≡ false)
+  pub taking : (r v : ℕ) → takes r v ≡ true → (position ps v .level ≡ l) × (takenBy ps above (suc r) v ≡ true) × (takenBy ps above r v ≡ false)
   taking r v t =
       let (a, b) = and-parts (eqb (position ps v .level) l) (takenBy ps above (suc r) v && not (takenBy ps above r v)) t in
       let (x, y) = and-parts (takenBy ps above (suc r) v) (not (takenBy ps above r v)) b in
@@ -149,3 +153,14 @@ module _ (ps : List Position) (lawful : Lawful ps) (above : ℕ → Side) (l : �
   taken-enough s h =
       let (j, b, still) = still-enough in
       record { at = λ w i e. still-later j still s (omega arith) .at w i e ∙ sym (still-later j still (length ps) b .at w i e) }
+
+  -- after a round that takes nothing no round does
+  pub none-later : (r s : ℕ) → anyBelow (takes r) (length ps) ≡ false → r ≤ s → anyBelow (takes s) (length ps) ≡ false
+  none-later r s e h =
+      let still = still-if r e in
+      any-false (takes s) (length ps) (λ w b. elim (cases-bool (takes s w)) [
+        | inl t ↦
+            let (at, by, before) = taking s w t in
+            absurd (both-ways _ before (still-later r still s h .at w b at ∙ sym (still-later r still (suc s) (omega arith) .at w b at) ∙ by))
+        | inr t ↦ t
+      ])

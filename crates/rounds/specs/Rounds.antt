@@ -59,14 +59,13 @@ rankUpTo ps above (suc n) v = cond (takenBy ps above n v) (rankUpTo ps above n v
 abbrev pub rankOf : List Position → ℕ → ℕ
 rankOf ps v = rankUpTo ps (colourOf ps) (length ps) v
 
--- The choice at v, where its colour owns it: where v was taken, the first move to a position that was the taker's before that round; else the first move to a position of the same colour.
+-- Whether move k suits v: where v was taken, it leads to a position that was the taker's before that round; else to a position of v's colour.
+abbrev pub suits : List Position → ℕ → ℕ → Bool
+suits ps v k = cond (taken ps (length ps) v) (leadsAlready ps (colourOf ps) (taken ps (rankOf ps v - 1)) v k) (same (colourOf ps v) (colourOf ps (target ps v k)))
+
+-- The choice at v: the first move that suits it, where its colour owns it; elsewhere 0.
 abbrev pub choiceOf : List Position → ℕ → ℕ
-choiceOf ps v =
-    cond (same (colourOf ps v) (position ps v .owner))
-    (cond (taken ps (length ps) v)
-    (firstTrue (leadsAlready ps (colourOf ps) (taken ps (rankOf ps v - 1)) v) (degree ps v))
-    (firstTrue (λ k. same (colourOf ps v) (colourOf ps (target ps v k))) (degree ps v)))
-    0
+choiceOf ps v = cond (same (colourOf ps v) (position ps v .owner)) (firstTrue (suits ps v) (degree ps v)) 0
 
 -- The entry of v.
 abbrev pub entryFor : List Position → ℕ → Entry
