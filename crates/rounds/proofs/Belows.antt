@@ -135,3 +135,11 @@ pub first-none : (f : ℕ → Bool) (n : ℕ) → anyBelow f n ≡ false → fir
 unfolding firstTrue
 first-none f zero a = refl
 first-none f (suc n) a = cond-false (anyBelow f n) _ _ (any-false f n (λ k l. any-not f (suc n) a k (omega arith))) ∙ cond-false (f n) n 0 (any-not f (suc n) a n (omega arith))
+
+pub sum-none : (f : ℕ → ℕ) → sumBelow f 0 ≡ 0
+unfolding sumBelow
+sum-none f = refl
+
+pub sum-more : (f : ℕ → ℕ) (n : ℕ) → sumBelow f (suc n) ≡ sumBelow f n + f n
+unfolding sumBelow
+sum-more f n = refl

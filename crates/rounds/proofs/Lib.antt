@@ -3,3 +3,4 @@ pub mod Taking
 pub mod Levels
 pub mod Ranks
 pub mod Right
+pub mod Counted

@@ -1,3 +1,4 @@
 pub mod Scans
 pub mod Stages
 pub mod Choosing
+pub mod Colouring
