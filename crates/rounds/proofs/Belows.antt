@@ -5,8 +5,9 @@ use mathlib.Core.Path.{_≡_, refl, ap, sym, _∙_, subst}
 use Prim.Native.Nat.{ℕ, zero, suc, max, _+_, _<_, _≤_}
 use native.Mathlib.Numerals.{add-one}
 use native.Mathlib.Omega.{arith}
+use lib.Dec.{ltb}
 use Rattle.std.specs.Orderings.{Decides}
-use Rattle.std.proofs.shelf.Tests.{cases-bool, cases-eq, cases-lt, both-ways, or-cases, or-left, or-right, cond-true, cond-false}
+use Rattle.std.proofs.shelf.Tests.{cases-bool, cases-eq, cases-lt, both-ways, or-cases, or-left, or-right, cond-true, cond-false, lt-ltb, le-ltb}
 use Rattle.std.proofs.shelf.Ways.{decides-below-or, decides-below-and, tells}
 use Rattle.game.specs.First.{allBelow}
 use Rattle.game.proofs.Firsts.{all-decides}
@@ -143,3 +144,39 @@ sum-none f = refl
 pub sum-more : (f : ℕ → ℕ) (n : ℕ) → sumBelow f (suc n) ≡ sumBelow f n + f n
 unfolding sumBelow
 sum-more f n = refl
+
+pub sum-same : (f g : ℕ → ℕ) (n : ℕ) → ((k : ℕ) → f k ≡ g k) → sumBelow f n ≡ sumBelow g n
+unfolding sumBelow
+sum-same f g zero h = refl
+sum-same f g (suc n) h = let a = sum-same f g n h in let b = h n in omega arith
+
+-- the first m numbers pass and no other
+pub count-first : (f : ℕ → Bool) (m n : ℕ) → ((k : ℕ) → k < n → f k ≡ ltb k m) → m ≤ n → countBelow f n ≡ m
+count-first f m n h l = count-stop f m n (upto f m (λ k b. h k (omega arith) ∙ lt-ltb k m b)) l (λ k a b. h k b ∙ le-ltb k m a)
+  where
+    upto : (f : ℕ → Bool) (m : ℕ) → ((k : ℕ) → k < m → f k ≡ true) → countBelow f m ≡ m
+    upto f zero h = count-none f
+    upto f (suc m) h = ap (countBelow f) (sym (add-one m)) ∙ count-full f m (upto f m (λ k b. h k (omega arith))) (h m (omega arith)) ∙ add-one m
+
+-- the highest value is one, or 0, and no value is higher
+pub max-upper : (f : ℕ → ℕ) (n k : ℕ) → k < n → f k ≤ maxBelow f n
+unfolding maxBelow
+max-upper f zero k h = absurd (omega arith)
+max-upper f (suc n) k h = elim (cases-eq k n) [
+  | inl e ↦ let s = ap f e in omega arith
+  | inr e ↦ let a = max-upper f n k (omega arith) in omega arith
+]
+
+pub max-at : (f : ℕ → ℕ) (n : ℕ) → 1 ≤ maxBelow f n → (k : ℕ) × (k < n) × (f k ≡ maxBelow f n)
+unfolding maxBelow
+max-at f zero h = absurd (omega arith)
+max-at f (suc n) h = by (max-at f n) (cases-lt (maxBelow f n) (f n))
+  where
+    by : (1 ≤ maxBelow f n → (k : ℕ) × (k < n) × (f k ≡ maxBelow f n)) → (maxBelow f n < f n) ⊎ (f n ≤ maxBelow f n) → (k : ℕ) × (k < suc n) × (f k ≡ max (maxBelow f n) (f n))
+    by more (inl b) = (n, omega arith, omega arith)
+    by more (inr b) = let (k, l, e) = more (omega arith) in (k, omega arith, omega arith)
+
+pub max-most : (f : ℕ → ℕ) (n m : ℕ) → ((k : ℕ) → f k ≤ m) → maxBelow f n ≤ m
+unfolding maxBelow
+max-most f zero m h = omega arith
+max-most f (suc n) m h = let a = max-most f n m h in let b = h n in omega arith

@@ -4,3 +4,4 @@ pub mod Levels
 pub mod Ranks
 pub mod Right
 pub mod Counted
+pub mod Rules

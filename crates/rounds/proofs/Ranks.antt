@@ -58,7 +58,7 @@ module _ (ps : List Position) (above : ℕ → Side) where
   rank-later n (suc m) v h e = elim (cases-eq n (suc m)) [
     | inl s ↦ ap (λ (x : ℕ). rankUpTo ps above x v) (sym s)
     | inr s ↦ elim (cases-bool (takenBy ps above n v)) [
-        | inl t ↦ let u = taken-later ps above n m v (omega arith) t in rank-kept m v u ∙ rank-later n m v (omega arith) (u ∙ sym t)
-        | inr t ↦ rank-none (suc m) v (e ∙ t) ∙ sym (rank-none n v t)
-      ]
+      | inl t ↦ let u = taken-later ps above n m v (omega arith) t in rank-kept m v u ∙ rank-later n m v (omega arith) (u ∙ sym t)
+      | inr t ↦ rank-none (suc m) v (e ∙ t) ∙ sym (rank-none n v t)
+    ]
   ]

@@ -35,7 +35,7 @@ colouring-length ps = length-map-counting (entryFor ps) 0 (length ps)
 pub colouring-entry : (ps : List Position) (v : ℕ) → v < length ps → entryOf (colouring ps) v ≡ entryFor ps v
 colouring-entry ps v h = getD-map-counting (entryFor ps) 0 (length ps) v v blankEntry h (zero-add v)
 
-twice : (c : Side) → opposite (opposite c) ≡ c
+pub twice : (c : Side) → opposite (opposite c) ≡ c
 twice Green = refl
 twice Red = refl
 
@@ -89,8 +89,7 @@ module _ (ps : List Position) (lawful : Lawful ps) (v : ℕ) (h : v < length ps)
     unfolding round
     few = let m = took .most in omega arith
 
-    forced-then : forced ps (colourOf ps) (taken ps round) v ≡ true
-    unfolding round
+    pub forced-then : forced ps (colourOf ps) (taken ps (rankOf ps v - 1)) v ≡ true
     forced-then =
         let some = took .some in
         let e : rankOf ps v ≡ suc (rankOf ps v - 1) = omega arith in
@@ -98,9 +97,11 @@ module _ (ps : List Position) (lawful : Lawful ps) (v : ℕ) (h : v < length ps)
         elim (or-cases _ _ by) [ inl a ↦ absurd (both-ways _ (took .before) a) | inr a ↦ a ]
 
     some-move : position ps v .owner ≡ taker ps v → anyBelow (leadsAlready ps (colourOf ps) (taken ps round) v) (degree ps v) ≡ true
+    unfolding round
     some-move o = sym (cond-true _ _ _ (own-same (taker ps v) _ o)) ∙ forced-then
 
     every-move : position ps v .owner ≡ opposite (taker ps v) → (k : ℕ) → k < degree ps v → leadsAlready ps (colourOf ps) (taken ps round) v k ≡ true
+    unfolding round
     every-move o = all-at (leadsAlready ps (colourOf ps) (taken ps round) v) (degree ps v) (sym (cond-false _ _ _ (other-same (taker ps v) _ o)) ∙ forced-then)
 
     suits-led : (k : ℕ) → suits ps v k ≡ leadsAlready ps (colourOf ps) (taken ps round) v k

@@ -49,10 +49,12 @@ module _ (ps : List Position) (lawful : Lawful ps) where
   taken-same a b l above zero = record { at = λ w h e. refl }
   taken-same a b l above (suc r) =
       let before = taken-same a b l above r in
-      record { at = λ w h e.
-        let x = before .at w h e in
-        let y = forced-same a b (takenBy ps a r) (takenBy ps b r) w (subst (λ (m : ℕ). AgreeAbove ps m a b) (sym e) above) (subst (λ (m : ℕ). Agree ps m (takenBy ps a r) (takenBy ps b r)) (sym e) before) in
-        cc }
+      record {
+        at = λ w h e.
+            let x = before .at w h e in
+            let y = forced-same a b (takenBy ps a r) (takenBy ps b r) w (subst (λ (m : ℕ). AgreeAbove ps m a b) (sym e) above) (subst (λ (m : ℕ). Agree ps m (takenBy ps a r) (takenBy ps b r)) (sym e) before) in
+            cc;
+      }
 
 module _ (ps : List Position) (above : ℕ → Side) where
   pub taken-none : (v : ℕ) → takenBy ps above 0 v ≡ false
@@ -88,13 +90,15 @@ module _ (ps : List Position) (lawful : Lawful ps) (above : ℕ → Side) (l : �
     | inl x ↦ record { at = λ w b e. ap (λ (n : ℕ). takenBy ps above n w) (sym x) }
     | inr x ↦
         let before = still-later r still s (omega arith) in
-        record { at = λ w b e.
-          let i = before .at w b e in
-          let f = forced-same ps lawful above above (takenBy ps above s) (takenBy ps above r) w (record { at = λ u c g. refl }) (subst (λ (m : ℕ). Agree ps m (takenBy ps above s) (takenBy ps above r)) (sym e) before) in
-          let p = taken-next ps above s w in
-          let q = taken-next ps above r w in
-          let t = still .at w b e in
-          cc }
+        record {
+          at = λ w b e.
+              let i = before .at w b e in
+              let f = forced-same ps lawful above above (takenBy ps above s) (takenBy ps above r) w (record { at = λ u c g. refl }) (subst (λ (m : ℕ). Agree ps m (takenBy ps above s) (takenBy ps above r)) (sym e) before) in
+              let p = taken-next ps above s w in
+              let q = taken-next ps above r w in
+              let t = still .at w b e in
+              cc;
+        }
   ]
 
   -- position v is in the level and is taken by round r

@@ -22,5 +22,5 @@ entry-same e f a b c =
 pub filled-all : (ps : List Position) → Lawful ps → (es : List Entry) (i : ℕ) → length es ≡ length ps → length ps ≤ i → Filled ps i es → es ≡ colouring ps
 filled-all ps lawful es i size h f =
     fill-by-all (entryFor ps) es (length ps) blankEntry size (λ v b.
-      let m = f .marked v b (omega arith) in
-      entry-same (entryOf es v) (entryFor ps v) (m .colour ∙ ap numberOf (sym (colour-is ps lawful v b))) (f .chosen v (omega arith) b) (m .rank))
+    let m = f .marked v b (omega arith) in
+    entry-same (entryOf es v) (entryFor ps v) (m .colour ∙ ap numberOf (sym (colour-is ps lawful v b))) (f .chosen v (omega arith) b) (m .rank))

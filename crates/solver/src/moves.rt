@@ -20,7 +20,13 @@ use game::side::Side;
 use game::side::SidePartialEq;
 
 // Whether move `k` of `v` leads to a position that is the taker's already, before round `n` + 1 of the level.
-pub(crate) fn leads_already<G: Game>(game: &G, sheet: &[Entry], v: usize, k: usize, n: usize) -> bool
+pub(crate) fn leads_already<G: Game>(
+    game: &G,
+    sheet: &[Entry],
+    v: usize,
+    k: usize,
+    n: usize,
+) -> bool
     requires sized { ⌜ length (now sheet) ≡ length (G·Game .meaning (now game)) ⌝ }
     requires read { ⌜ Readable (G·Game .meaning (now game)) (position (G·Game .meaning (now game)) v .level) n (now sheet) ⌝ }
     requires within { ⌜ k < degree (G·Game .meaning (now game)) v ⌝ }

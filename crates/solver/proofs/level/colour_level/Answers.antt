@@ -18,9 +18,10 @@ loop-n-holds g c = (c .clear .ensures, count-none _)
 pub loop-n-again : need.loop-n-again
 loop-n-again g c =
     let ps = g .G·Game .meaning (c .args .game .now) in
-    let n = c .loop-n .n in
-    ( subst (λ (i : ℕ). Stage ps (c .args .level) i 0 (c .round .last .sheet)) (sym (add-one n)) (c .round .ensures .stage)
-    , count-full (adds ps (c .args .level)) n (c .loop-n .inv .1) (sym (c .round .ensures .added) ∙ c .if-not-round .left))
+    let n = c .loop-n .n in (
+      subst (λ (i : ℕ). Stage ps (c .args .level) i 0 (c .round .last .sheet)) (sym (add-one n)) (c .round .ensures .stage),
+      count-full (adds ps (c .args .level)) n (c .loop-n .inv .1) (sym (c .round .ensures .added) ∙ c .if-not-round .left),
+    )
 
 pub returns-then-not-round : need.returns-then-not-round
 returns-then-not-round g c =

@@ -18,9 +18,10 @@ pub loop-v-again : need.loop-v-again
 loop-v-again g c =
     let ps = g .G·Game .meaning (c .args .game .now) in
     let more = any-more (takesAt ps (c .args .level) (c .args .n)) (c .loop-v .v) in
-    let inv = c .loop-v .inv .1 in
-    ( subst (λ (i : ℕ). Stage ps (c .args .level) (c .args .n) i (c .advance-added .last .sheet)) (sym (add-one (c .loop-v .v))) (c .advance-added .ensures .stage)
-    , ap (λ b. b || c .advance-added .result) inv ∙ ap (λ b. anyBelow (takesAt ps (c .args .level) (c .args .n)) (c .loop-v .v) || b) (c .advance-added .ensures .taken) ∙ sym more)
+    let inv = c .loop-v .inv .1 in (
+      subst (λ (i : ℕ). Stage ps (c .args .level) (c .args .n) i (c .advance-added .last .sheet)) (sym (add-one (c .loop-v .v))) (c .advance-added .ensures .stage),
+      ap (λ b. b || c .advance-added .result) inv ∙ ap (λ b. anyBelow (takesAt ps (c .args .level) (c .args .n)) (c .loop-v .v) || b) (c .advance-added .ensures .taken) ∙ sym more,
+    )
 
 pub returns : need.returns
 returns g c =

@@ -1,0 +1,28 @@
+-- The rule of the rounds, as a relation between a game and a sheet.
+use mathlib.Core.List.{List}
+use mathlib.Core.Logic.{_⊎_}
+use mathlib.Core.Path.{_≡_}
+use Prim.Native.Nat.{ℕ, suc, _<_, _≤_}
+use lib.ListN.{length}
+use Rattle.game.specs.declared.sheet.Entry.{Entry}
+use Rattle.game.specs.Positions.{Position, position, Leads}
+use Rattle.game.specs.Sheets.{entryOf, Coloured}
+use Rattle.rounds.specs.Rounds.{taker}
+
+-- By the end of round r, w is the taker of v's already: it is in a higher level and has the taker's colour, or it is in the same level and was taken in one of the first r rounds.
+abbrev pub Already : List Position → List Entry → ℕ → ℕ → ℕ → Type 0
+Already ps es r v w = ((position ps v .level < position ps w .level) × Coloured es w (taker ps v)) ⊎ ((position ps w .level ≡ position ps v .level) × (1 ≤ entryOf es w .rank) × (entryOf es w .rank ≤ r))
+
+-- What is taken by round r forces v: where the taker owns it some move leads to a position that is the taker's already, where the other side owns it every move does.
+pub record Forced (ps : List Position) (es : List Entry) (r v : ℕ) : Type 0 where
+  pub some : position ps v .owner ≡ taker ps v → (k : ℕ) × (w : ℕ) × Leads ps v k w × Already ps es r v w
+  pub every : position ps v .owner ≡ position ps v .kind → (k w : ℕ) → Leads ps v k w → Already ps es r v w
+
+-- The rule at v: it has the taker's colour and its rank is the first round before which it is forced, or it has its kind's colour and rank 0 and nothing ever forces it.
+pub record RuledAt (ps : List Position) (es : List Entry) (v : ℕ) : Type 0 where
+  pub taken : Coloured es v (taker ps v) → (r : ℕ) × (entryOf es v .rank ≡ suc r) × Forced ps es r v × ((q : ℕ) → q < r → Forced ps es q v → ⊥)
+  pub left : Coloured es v (position ps v .kind) → (entryOf es v .rank ≡ 0) × ((r : ℕ) → Forced ps es r v → ⊥)
+
+-- The sheet is ruled by the rounds at every position.
+abbrev pub RuledByRounds : List Position → List Entry → Type 0
+RuledByRounds ps es = (v : ℕ) → v < length ps → RuledAt ps es v
