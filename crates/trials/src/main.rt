@@ -1,9 +1,14 @@
 // Cases whose answers are known from elsewhere, run: the rules' worked cases, and games with the answers of another checker.
-mod cases;
+mod coloured;
 mod numbers;
+mod pair_cases;
+mod parts;
+mod row_cases;
+mod tally;
 mod worked;
 
-use cases::try_cases;
+use pair_cases::try_pairs;
+use row_cases::try_row_games;
 use std::error::AnyError;
 use worked::try_count;
 use worked::try_one_row;
@@ -17,5 +22,6 @@ fn run(rt: &LibcRuntime) -> Result<(), AnyError> {
     for count in [0, 1, 16384, 16385] {
         try_count(rt, count)?;
     }
-    try_cases(rt, "rows")
+    try_row_games(rt, "rows")?;
+    try_pairs(rt, "pairs")
 }
