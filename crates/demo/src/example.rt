@@ -1,8 +1,10 @@
 // The game of the tour, a right sheet for it, and damaged ones.
 use game::sheet::Entry;
 use games::row::Row;
+use games::rows::Rows;
 use std::alloc::AllocError;
 use std::alloc::Global;
+use std::error::AnyError;
 
 fn row(owner: u16, level: u16, kind: u16, first: u16, count: u16) -> Row {
     Row {
@@ -24,7 +26,7 @@ fn entry(colour: u8, choice: u16, rank: u16) -> Entry {
 
 // Four positions. From 0 Green may go round with Red by way of 1, or leave for 2, where Red goes
 // round alone; at 3 Green goes round alone.
-pub(crate) fn four_rows(heap: Global) -> Result<(Vec<Row>, Vec<u16>), AllocError> {
+pub(crate) fn example_game(heap: Global) -> Result<Rows, AnyError> {
     let rows = vec![in heap;
         row(0, 0, 1, 0, 2),
         row(1, 0, 1, 2, 1),
@@ -32,7 +34,10 @@ pub(crate) fn four_rows(heap: Global) -> Result<(Vec<Row>, Vec<u16>), AllocError
         row(0, 1, 1, 4, 1),
     ]?;
     let targets = vec![in heap; 1, 2, 0, 2, 3]?;
-    Ok((rows, targets))
+    match Rows::new(rows, targets) {
+        Ok(game) => Ok(game),
+        Err(_) => Err("the rows make no game".into()),
+    }
 }
 
 // Green wins from 0, by move 1, from 1 and from 2; Red wins from 3.
@@ -63,4 +68,9 @@ pub(crate) fn damage() -> [(usize, &'static str, Entry); 5] {
         (1, "no rank at 1", entry(0, 0, 0)),
         (0, "going round from 0", entry(0, 0, 1)),
     ]
+}
+
+// A sheet of `len` entries to be filled in.
+pub(crate) fn blank_sheet(heap: Global, len: usize) -> Result<Vec<Entry>, AllocError> {
+    vec![in heap; entry(0, 0, 0); len]
 }

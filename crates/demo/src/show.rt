@@ -37,7 +37,6 @@ fn show_moves<G: Game>(rt: &LibcRuntime, game: &G, v: usize) -> io::Result<()> {
 
 // Who wins from each position by an accepted sheet, and how.
 pub(crate) fn show_winners<G: Game>(rt: &LibcRuntime, game: &G, sheet: &[Entry]) -> io::Result<()> {
-    println!(rt, "Its sheet is accepted, so it says who wins:")?;
     for (v, entry) in sheet.iter().enumerate() {
         let Some(winner) = Side::from_number(entry.colour) else {
             continue;
