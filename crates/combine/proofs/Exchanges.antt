@@ -1,7 +1,7 @@
 -- The exchanged game keeps the laws, and its accepted sheets have the opposite colours.
 use mathlib.Core.List.{List, map}
 use mathlib.Core.Path.{_≡_, refl, sym, ap, _∙_, subst}
-use Prim.Native.Nat.{ℕ, _-_, _<_, _≤_}
+use Prim.Native.Nat.{ℕ, _-_, _<_}
 use native.Mathlib.Omega.{arith}
 use lib.ListN.{length, getD}
 use Rattle.std.specs.declared.option.Option.{Option}
@@ -13,7 +13,7 @@ use Rattle.game.specs.declared.side.Side.{Side}
 use Rattle.game.specs.declared.side.Side.the-variants.{Green, Red}
 use Rattle.game.specs.declared.sheet.Entry.{Entry}
 use Rattle.game.specs.Sides.{opposite, numberOf}
-use Rattle.game.specs.Positions.{Position, blank, position, degree, Leads, ownerAt, levelAt, kindAt, degreeAt, targetAt}
+use Rattle.game.specs.Positions.{Position, blank, position, degree, Leads, targetAt}
 use Rattle.game.specs.Laws.{Lawful}
 use Rattle.game.specs.Sheets.{blankEntry, entryOf, Coloured}
 use Rattle.game.specs.Rules.{KeepsAt, KeepsRules}

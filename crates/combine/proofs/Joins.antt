@@ -1,29 +1,25 @@
 -- Two games under one head are a game, and its accepted sheets have the colours of the two.
-use mathlib.Core.Bool.{Bool, true, false, cond}
-use mathlib.Core.List.{List, [], _∷_, _++_, map}
+use mathlib.Core.List.{List, map}
 use mathlib.Core.Logic.{_⊎_, inl, inr}
 use mathlib.Core.Path.{_≡_, refl, sym, ap, _∙_, subst}
 use Prim.Native.Nat.{ℕ, zero, suc, _+_, _-_, _<_, _≤_}
 use native.Mathlib.Numerals.{one-add}
 use native.Mathlib.Omega.{arith}
-use lib.ListN.{length, getD}
-use Rattle.std.specs.declared.option.Option.{Option}
-use Rattle.std.specs.declared.option.Option.the-variants.{Some, None}
+use lib.ListN.{length}
 use Rattle.std.proofs.shelf.Lists.{length-append, length-map, getD-map, getD-append-left, getD-append-add}
 use Rattle.std.proofs.shelf.Tests.{cases-lt, cases-eq}
 use Rattle.game.specs.declared.side.Side.{Side}
-use Rattle.game.specs.declared.side.Side.the-variants.{Green, Red}
 use Rattle.game.specs.declared.sheet.Entry.{Entry}
 use Rattle.game.specs.Sides.{opposite, numberOf}
 use Rattle.game.specs.Positions.{Position, blank, position, degree, target, Leads}
-use Rattle.game.specs.Laws.{mostPositions, Lawful}
+use Rattle.game.specs.Laws.{mostPositions, mostMoves, Lawful}
 use Rattle.game.specs.Sheets.{entryOf, Coloured}
 use Rattle.game.specs.Rules.{KeepsRules}
 use Rattle.game.proofs.Sides.{cases-side, apart, number-same}
 use Rattle.game.proofs.Answered.{leads-from}
 use Rattle.game.proofs.Kept.{accepted-keeps}
 use Rattle.game.proofs.Sound.{keeps-for}
-use Rattle.combine.specs.Join.{shifted, headOf, joined, ColoursAgree, ColoursJoined}
+use Rattle.combine.specs.Join.{shifted, joined, ColoursJoined}
 use Rattle.combine.proofs.Parts.{Part, part-level, part-kind, part-degree, leads-part, part-colours}
 
 -- what holds at 0, at 1 + v for v below n and at 1 + n + v for v below m holds below 1 + n + m
@@ -132,7 +128,7 @@ module _ (owner : Side) (xs : List Position) (p : ℕ) (ys : List Position) (q :
                 (λ v b. let a = part-level js xs 1 first-part v b in let l = first .bounded .levels v b in omega arith)
                 (λ v b. let a = part-level js ys (1 + length xs) second-part v b in let l = second .bounded .levels v b in omega arith)
                 u (omega arith);
-            degrees = λ u h. by-place (length xs) (length ys) (λ u. degree js u ≤ 65535)
+            degrees = λ u h. by-place (length xs) (length ys) (λ u. degree js u ≤ mostMoves)
                 (omega arith)
                 (λ v b. let a = part-degree js xs 1 first-part v b in let l = first .bounded .degrees v b in omega arith)
                 (λ v b. let a = part-degree js ys (1 + length xs) second-part v b in let l = second .bounded .degrees v b in omega arith)

@@ -1,11 +1,11 @@
 -- The game that any two games and starts make.
-use mathlib.Core.Bool.{Bool, true, false, cond, _&&_}
-use mathlib.Core.List.{List, [], _∷_}
+use mathlib.Core.Bool.{Bool, true, false, cond}
+use mathlib.Core.List.{List}
 use mathlib.Core.Logic.{inl, inr}
 use mathlib.Core.Path.{_≡_, refl, sym, ap, _∙_, subst}
 use Prim.Native.Nat.{ℕ, _+_, _-_, _<_, _≤_}
 use native.Mathlib.Omega.{arith}
-use lib.Dec.{leb, ltb}
+use lib.Dec.{ltb}
 use lib.ListN.{length}
 use Rattle.std.specs.declared.option.Option.{Option}
 use Rattle.std.specs.declared.option.Option.the-variants.{Some, None}
@@ -15,10 +15,10 @@ use Rattle.std.proofs.shelf.Maps.{nth-getD, nth-past}
 use Rattle.std.proofs.shelf.Tests.{cases-lt, and-parts, leb-true, ltb-true, lt-ltb, cond-true, cond-false}
 use Rattle.game.specs.declared.side.Side.{Side}
 use Rattle.game.specs.Positions.{Position, blank}
-use Rattle.game.specs.Laws.{mostPositions, Lawful}
+use Rattle.game.specs.Laws.{Lawful}
 use Rattle.game.specs.Refusals.{Refused, refused}
 use Rattle.game.proofs.Firsts.{unless-none}
-use Rattle.combine.specs.Join.{shifted, headOf, joined, fits, joinRefusal, startIn, paired, Judged}
+use Rattle.combine.specs.Join.{shifted, joined, fits, joinRefusal, startIn, paired, Judged}
 use Rattle.combine.proofs.Joins.{joined-length, joined-first, joined-second, joined-lawful, colours-joined}
 
 start-in : (n p : ℕ) → 1 ≤ n → startIn n p < n
@@ -43,7 +43,6 @@ module _ (owner : Side) (xs : List Position) (p : ℕ) (ys : List Position) (q :
   pub read-second : (u : ℕ) → 1 ≤ u → length xs ≤ u - 1 → nth (joined owner xs p ys q) u ≡ mapped (shifted (1 + length xs)) (nth ys (u - 1 - length xs))
   read-second u one h =
       let n = joined-length owner xs p ys q in
-      let v = u - 1 - length xs in
       let e : u ≡ 1 + length xs + (u - 1 - length xs) = omega arith in
       elim (cases-lt (u - 1 - length xs) (length ys)) [
         | inl l ↦ ap (nth (joined owner xs p ys q)) e ∙ nth-getD (joined owner xs p ys q) (1 + length xs + (u - 1 - length xs)) blank (omega arith)
@@ -53,7 +52,7 @@ module _ (owner : Side) (xs : List Position) (p : ℕ) (ys : List Position) (q :
 
 module _ (owner : Side) (xs : List Position) (p : ℕ) (ys : List Position) (q : ℕ) where
   -- with the starts that are there
-  abbrev pub js : List Position
+  abbrev js : List Position
   js = joined owner xs (startIn (length xs) p) ys (startIn (length ys) q)
 
   pub paired-fits : fits (length xs) (length ys) ≡ true → paired owner xs p ys q ≡ js

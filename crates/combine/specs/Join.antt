@@ -38,8 +38,7 @@ fits n m = leb (1 + n + m) mostPositions
 abbrev pub joinRefusal : ℕ → ℕ → ℕ → ℕ → Option Refused
 joinRefusal n p m q = unless (ltb p n && ltb q m) (refused 12) (unless (fits n m) (refused 13) None)
 
--- How the colours of a sheet gs of the joined game go with those of sheets es and fs of the two games: positions have the colours that they have in
--- their own game, and the head has its owner's exactly when p or q has it.
+-- The colours of a sheet gs of the joined game are those of sheets es and fs of the two games, and the head has its owner's exactly when p or q has it.
 pub record ColoursAgree (owner : Side) (n p m q : ℕ) (es fs gs : List Entry) : Type 0 where
   pub first : (v : ℕ) → v < n → entryOf gs (1 + v) .colour ≡ entryOf es v .colour
   pub second : (v : ℕ) → v < m → entryOf gs (1 + n + v) .colour ≡ entryOf fs v .colour
@@ -54,12 +53,11 @@ ColoursJoined owner xs p ys q = (es fs gs : List Entry) → checked xs es ≡ No
 abbrev pub startIn : ℕ → ℕ → ℕ
 startIn n p = cond (ltb p n) p 0
 
--- A game from any two games and starts: the joined game where they fit, with 0 for a start that is not there; else the first alone. Where nothing is
--- refused it is the joined game.
+-- A game from any two games and starts: the joined game where they fit, with 0 for a start that is not there; else the first alone. It is the joined game where nothing is refused.
 unfoldable pub paired : Side → List Position → ℕ → List Position → ℕ → List Position
 paired owner xs p ys q = cond (fits (length xs) (length ys)) (joined owner xs (startIn (length xs) p) ys (startIn (length ys) q)) xs
 
--- What is known of two games and starts where the answer is the refusal, if any: with none the game is the joined one, and the colours agree.
+-- What follows where answer is the refusal, if any: with none the game is the joined one, and the colours agree.
 pub record Judged (owner : Side) (xs : List Position) (p : ℕ) (ys : List Position) (q : ℕ) (answer : Option Refused) : Type 0 where
   pub refusal : answer ≡ joinRefusal (length xs) p (length ys) q
   pub meaning : answer ≡ None → paired owner xs p ys q ≡ joined owner xs p ys q

@@ -1,11 +1,11 @@
 -- The game that two lists make: what its positions are, and that lists without a fault make one with the bounds and both laws.
 use mathlib.Core.Bool.{false}
-use mathlib.Core.List.{List, map}
+use mathlib.Core.List.{List}
 use mathlib.Core.Logic.{inl, inr}
 use mathlib.Core.Path.{_≡_, refl, sym, _∙_, ap, subst}
-use Prim.Native.Nat.{ℕ, min, _+_, _<_, _≤_}
+use Prim.Native.Nat.{ℕ, _+_, _<_, _≤_}
 use native.Mathlib.Omega.{arith}
-use lib.ListN.{length, getD, take, drop}
+use lib.ListN.{length, getD, drop}
 use Rattle.std.specs.declared.option.Option.{Option}
 use Rattle.std.specs.declared.option.Option.the-variants.{Some, None}
 use Rattle.std.specs.Options.{Cases, isSome, mapped}
@@ -13,15 +13,14 @@ use Rattle.std.specs.shelf.Maps.{nth}
 use Rattle.std.proofs.shelf.Lists.{length-map, length-take, length-drop, getD-map}
 use Rattle.std.proofs.shelf.Maps.{nth-past}
 use Rattle.std.proofs.shelf.Tests.{cases-lt}
-use Rattle.game.specs.declared.side.Side.{Side}
-use Rattle.game.specs.Positions.{Position, blank, position, degree, targetAt, Leads}
-use Rattle.game.specs.Laws.{Bounded, Monotone, KeepsKind, Lawful}
+use Rattle.game.specs.Positions.{Position, blank, position, targetAt, Leads}
+use Rattle.game.specs.Laws.{Lawful}
 use Rattle.game.proofs.Answered.{leads-from}
 use Rattle.combine.proofs.ByPosition.{nth-map, getD-nth, getD-none}
 use Rattle.games.specs.declared.row.Row.{Row}
 use Rattle.games.specs.Rows.{sideIn, spanOf, positionOf, meaningOf, blankRow, rowOf, rowsRefusal}
 use Rattle.games.specs.RowReads.{movesIn, ReadOff}
-use Rattle.games.proofs.Faults.{Sound, AllSound, all-sound}
+use Rattle.games.proofs.Faults.{AllSound, all-sound}
 
 within : {X : Type 0} (xs : List X) (k : ℕ) (x : X) → Some x ≡ nth xs k → k < length xs
 within xs k x e = elim (cases-lt k (length xs)) [ inl h ↦ h | inr h ↦ let n = nth-past xs k h in let z : _≡_ {A = ℕ} 0 1 = cc in absurd (omega arith) ]

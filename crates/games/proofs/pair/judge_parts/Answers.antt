@@ -1,4 +1,3 @@
-use Rattle.game.specs.Laws.{Lawful}
 use Rattle.combine.proofs.Pairings.{judged}
 use Rattle.games.proofs.pair.judge_parts.Needs as need
 

@@ -1,4 +1,3 @@
-use Rattle.game.specs.Laws.{Lawful}
 use Rattle.combine.proofs.Pairings.{paired-lawful}
 use Rattle.games.proofs.pair.PairGame.the-impl.Needs as need
 

@@ -1,6 +1,3 @@
-use mathlib.Core.Path.{_≡_}
-use Rattle.game.specs.Laws.{Lawful}
-use Rattle.combine.specs.Exchange.{exchanged}
 use Rattle.combine.proofs.Exchanges.{exchanged-lawful}
 use Rattle.games.proofs.swapped.SwappedGame.the-impl.Needs as need
 
