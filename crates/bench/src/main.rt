@@ -31,9 +31,10 @@ fn chain(rt: &LibcRuntime, len: u16) -> Result<Rows, AnyError> {
     made(rows, targets)
 }
 
-// One level of kind Red: each position is Red's and moves to the first `count` positions. Nothing is taken.
+// One level of kind Red: each position is Green's and moves to the first `count` positions, so that every
+// move is looked at and nothing is taken.
 fn wide(rt: &LibcRuntime, len: u16, count: u16) -> Result<Rows, AnyError> {
-    let rows = vec![in rt.alloc(); row(1, 0, count); len as usize]?;
+    let rows = vec![in rt.alloc(); row(0, 0, count); len as usize]?;
     let mut targets = Vec::new(rt.alloc());
     for i in 0..count {
         targets.push(i)?;
