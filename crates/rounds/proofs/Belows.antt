@@ -180,3 +180,8 @@ pub max-most : (f : ℕ → ℕ) (n m : ℕ) → ((k : ℕ) → f k ≤ m) → m
 unfolding maxBelow
 max-most f zero m h = omega arith
 max-most f (suc n) m h = let a = max-most f n m h in let b = h n in omega arith
+
+pub max-same : (f g : ℕ → ℕ) (n : ℕ) → ((k : ℕ) → k < n → f k ≡ g k) → maxBelow f n ≡ maxBelow g n
+unfolding maxBelow
+max-same f g zero h = refl
+max-same f g (suc n) h = let a = max-same f g n (λ k l. h k (omega arith)) in let b = h n (omega arith) in cc

@@ -101,6 +101,7 @@ module _ (ps : List Position) (lawful : Lawful ps) where
 
   ruled : RuledByRounds ps (colouring ps)
   ruled v h = record {
+    side = elim (cases-bool (taken ps (length ps) v)) [ inl t ↦ inl (coloured v h ∙ ap numberOf (colour-taken ps lawful v h t)) | inr t ↦ inr (coloured v h ∙ ap numberOf (colour-left ps lawful v h t)) ];
     taken = λ c. by-taking (elim (cases-bool (taken ps (length ps) v)) [ inl t ↦ t | inr t ↦ absurd (apart (position ps v .kind) (sym (colour-left ps lawful v h t) ∙ number-same _ _ (sym (coloured v h) ∙ c))) ]);
     left = λ c.
         let t : taken ps (length ps) v ≡ false = elim (cases-bool (taken ps (length ps) v)) [ inl t ↦ absurd (apart (position ps v .kind) (sym (number-same _ _ (sym (coloured v h) ∙ c)) ∙ colour-taken ps lawful v h t)) | inr t ↦ t ] in

@@ -9,6 +9,7 @@ use Rattle.game.specs.declared.side.Side.{Side}
 use Rattle.game.specs.declared.sheet.Entry.{Entry}
 use Rattle.game.specs.Sides.{opposite, numberOf, same}
 use Rattle.game.specs.Positions.{Position, position, degree, target}
+use Rattle.game.specs.Sheets.{entryOf}
 use Rattle.game.specs.First.{allBelow}
 use Rattle.rounds.specs.Below.{anyBelow, firstTrue, countBelow, sumBelow, maxBelow}
 
@@ -16,19 +17,19 @@ use Rattle.rounds.specs.Below.{anyBelow, firstTrue, countBelow, sumBelow, maxB
 abbrev pub taker : List Position → ℕ → Side
 taker ps v = opposite (position ps v .kind)
 
--- Whether w is the taker of v's already: by its colour where w is in a higher level, else by being taken.
+-- Whether w is the taker of v's already: by its colour where w is in a higher level, else by being taken. Here above gives the colours of higher levels, and was says who was taken in earlier rounds.
 abbrev pub already : List Position → (ℕ → Side) → (ℕ → Bool) → ℕ → ℕ → Bool
-already ps above taken v w = cond (ltb (position ps v .level) (position ps w .level)) (same (taker ps v) (above w)) (taken w)
+already ps above was v w = cond (ltb (position ps v .level) (position ps w .level)) (same (taker ps v) (above w)) (was w)
 
 -- Whether move k of v leads to a position that is the taker's already.
 abbrev pub leadsAlready : List Position → (ℕ → Side) → (ℕ → Bool) → ℕ → ℕ → Bool
-leadsAlready ps above taken v k = already ps above taken v (target ps v k)
+leadsAlready ps above was v k = already ps above was v (target ps v k)
 
 -- Whether v is forced: the taker owns it and some move leads to a position that is the taker's already, or the other side owns it and every move does.
 abbrev pub forced : List Position → (ℕ → Side) → (ℕ → Bool) → ℕ → Bool
-forced ps above taken v = cond (same (taker ps v) (position ps v .owner)) (anyBelow (leadsAlready ps above taken v) (degree ps v)) (allBelow (leadsAlready ps above taken v) (degree ps v))
+forced ps above was v = cond (same (taker ps v) (position ps v .owner)) (anyBelow (leadsAlready ps above was v) (degree ps v)) (allBelow (leadsAlready ps above was v) (degree ps v))
 
--- Whether v is taken by the end of round r of its level, above giving the colours of higher levels: it was taken before, or is forced by what was.
+-- Whether v is taken by the end of round r of its level: it was taken before, or is forced by what was.
 unfoldable pub takenBy : List Position → (ℕ → Side) → ℕ → ℕ → Bool
 takenBy ps above zero v = false
 takenBy ps above (suc r) v = takenBy ps above r v || forced ps above (takenBy ps above r) v
@@ -75,10 +76,11 @@ entryFor ps v = record { colour = numberOf (colourOf ps v); choice = choiceOf ps
 abbrev pub colouring : List Position → List Entry
 colouring ps = map (entryFor ps) (counting 0 (length ps))
 
--- Whether round r + 1 takes a position of level l.
+-- Whether round r + 1 takes v, a position of level l.
 abbrev pub takesAt : List Position → ℕ → ℕ → ℕ → Bool
 takesAt ps l r v = eqb (position ps v .level) l && (taken ps (suc r) v && not (taken ps r v))
 
+-- Whether round r + 1 of level l adds something.
 abbrev pub adds : List Position → ℕ → ℕ → Bool
 adds ps l r = anyBelow (takesAt ps l r) (length ps)
 
@@ -90,10 +92,10 @@ roundsAt ps l = countBelow (adds ps l) (length ps)
 abbrev pub roundsOf : List Position → ℕ
 roundsOf ps = sumBelow (roundsAt ps) (length ps)
 
--- The rank of v where it is in level l, else 0.
-abbrev pub rankIn : List Position → ℕ → ℕ → ℕ
-rankIn ps l v = cond (eqb (position ps v .level) l) (rankOf ps v) 0
+-- The rank that a sheet gives v where it is in level l, else 0.
+abbrev pub rankIn : List Position → List Entry → ℕ → ℕ → ℕ
+rankIn ps es l v = cond (eqb (position ps v .level) l) (entryOf es v .rank) 0
 
--- The sum over the levels of the highest rank.
-abbrev pub highestRanks : List Position → ℕ
-highestRanks ps = sumBelow (λ l. maxBelow (rankIn ps l) (length ps)) (length ps)
+-- The sum over the levels of a sheet's highest rank.
+abbrev pub highestRanks : List Position → List Entry → ℕ
+highestRanks ps es = sumBelow (λ l. maxBelow (rankIn ps es l) (length ps)) (length ps)

@@ -18,8 +18,9 @@ pub record Forced (ps : List Position) (es : List Entry) (r v : ℕ) : Type 0 wh
   pub some : position ps v .owner ≡ taker ps v → (k : ℕ) × (w : ℕ) × Leads ps v k w × Already ps es r v w
   pub every : position ps v .owner ≡ position ps v .kind → (k w : ℕ) → Leads ps v k w → Already ps es r v w
 
--- The rule at v: it has the taker's colour and its rank is the first round before which it is forced, or it has its kind's colour and rank 0 and nothing ever forces it.
+-- The rule at v: its colour is the taker's, and its rank is r + 1 for the least r at which it is forced; or its colour is its kind's, its rank is 0, and nothing ever forces it.
 pub record RuledAt (ps : List Position) (es : List Entry) (v : ℕ) : Type 0 where
+  pub side : Coloured es v (taker ps v) ⊎ Coloured es v (position ps v .kind)
   pub taken : Coloured es v (taker ps v) → (r : ℕ) × (entryOf es v .rank ≡ suc r) × Forced ps es r v × ((q : ℕ) → q < r → Forced ps es q v → ⊥)
   pub left : Coloured es v (position ps v .kind) → (entryOf es v .rank ≡ 0) × ((r : ℕ) → Forced ps es r v → ⊥)
 

@@ -32,7 +32,7 @@ fn colour_levels<G: Game>(game: &G, sheet: &mut [Entry]) -> usize
     requires { ⌜ length (now sheet) ≡ length (G·Game .meaning (now game)) ⌝ }
     ensures done { λ _. ⌜ DoneFrom (G·Game .meaning (now (game .entry))) 0 (now (sheet .exit)) ⌝ }
     ensures rounds { λ r. ⌜ r ≡ roundsOf (G·Game .meaning (now (game .entry))) ⌝ }
-    ensures ranks { λ r. ⌜ r ≡ highestRanks (G·Game .meaning (now (game .entry))) ⌝ }
+    ensures ranks { λ r. ⌜ r ≡ highestRanks (G·Game .meaning (now (game .entry))) (colouring (G·Game .meaning (now (game .entry)))) ⌝ }
 {
     let count = sheet.len();
     let mut rounds = 0;
@@ -61,7 +61,7 @@ fn choose<G: Game>(game: &G, sheet: &mut [Entry])
 pub fn colour<G: Game>(game: &G, sheet: &mut [Entry]) -> Result<usize, Refusal>
     ensures answer { λ r. ⌜ r ≡ cond (eqb (length (now (sheet .entry))) (length (G·Game .meaning (now (game .entry))))) (Ok (roundsOf (G·Game .meaning (now (game .entry))))) (Err Length) ⌝ }
     ensures sheet { λ _. ⌜ now (sheet .exit) ≡ cond (eqb (length (now (sheet .entry))) (length (G·Game .meaning (now (game .entry))))) (colouring (G·Game .meaning (now (game .entry)))) (now (sheet .entry)) ⌝ }
-    ensures highest_ranks { λ r. ⌜ made r (λ n. n ≡ highestRanks (G·Game .meaning (now (game .entry)))) ⌝ }
+    ensures highest_ranks { λ r. ⌜ made r (λ n. n ≡ highestRanks (G·Game .meaning (now (game .entry))) (now (sheet .exit))) ⌝ }
     ensures accepted { λ r. ⌜ made r (λ _. checked (G·Game .meaning (now (game .entry))) (now (sheet .exit)) ≡ None) ⌝ }
     ensures ruled { λ r. ⌜ made r (λ _. RuledByRounds (G·Game .meaning (now (game .entry))) (now (sheet .exit))) ⌝ }
 {

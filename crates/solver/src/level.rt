@@ -13,7 +13,7 @@ use game::reads::level_of;
 use game::sheet::Entry;
 use game::side::Side;
 
-// An entry that is not chosen for yet.
+// An entry whose choice is not filled in yet.
 fn mark(side: Side, rank: u16) -> Entry
     ensures { λ r. ⌜ r ≡ record { colour = numberOf side; choice = 0; rank = rank } ⌝ }
 {

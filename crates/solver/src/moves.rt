@@ -1,4 +1,4 @@
-// What the moves of a position say: whether a round takes it, and by which move it is chosen.
+// What the moves of a position say: whether a round takes it, and which move it chooses.
 ghost use mathlib.Core.Bool.{Bool, true, cond};
 ghost use mathlib.Core.Path.{_≡_};
 ghost use Prim.Native.Nat.{_<_, _≤_};
