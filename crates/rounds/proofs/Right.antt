@@ -104,14 +104,14 @@ module _ (ps : List Position) (lawful : Lawful ps) (v : ℕ) (h : v < length ps)
     unfolding round
     every-move o = all-at (leadsAlready ps (colourOf ps) (taken ps round) v) (degree ps v) (sym (cond-false _ _ _ (other-same (taker ps v) _ o)) ∙ forced-then)
 
-    suits-led : (k : ℕ) → suits ps v k ≡ leadsAlready ps (colourOf ps) (taken ps round) v k
-    unfolding round
+    pub suits-led : (k : ℕ) → suits ps v k ≡ leadsAlready ps (colourOf ps) (taken ps (rankOf ps v - 1)) v k
     suits-led k = cond-true _ _ _ t
 
-    some-suits : position ps v .owner ≡ taker ps v → anyBelow (suits ps v) (degree ps v) ≡ true
+    pub some-suits : position ps v .owner ≡ taker ps v → anyBelow (suits ps v) (degree ps v) ≡ true
+    unfolding round
     some-suits o = let (k, b, e) = any-at (leadsAlready ps (colourOf ps) (taken ps round) v) (degree ps v) (some-move o) in any-from (suits ps v) (degree ps v) k b (suits-led k ∙ e)
 
-    choice-own : position ps v .owner ≡ taker ps v → choiceOf ps v ≡ firstTrue (suits ps v) (degree ps v)
+    pub choice-own : position ps v .owner ≡ taker ps v → choiceOf ps v ≡ firstTrue (suits ps v) (degree ps v)
     choice-own o = cond-true _ _ _ (own-same (colourOf ps v) _ (o ∙ sym (colour-taken ps lawful v h t)))
 
     choice-other : position ps v .owner ≡ opposite (taker ps v) → choiceOf ps v ≡ 0
@@ -119,6 +119,7 @@ module _ (ps : List Position) (lawful : Lawful ps) (v : ℕ) (h : v < length ps)
 
     -- a move that counts leads to a position that was the taker's already
     counted : (k : ℕ) → k < degree ps v → (position ps v .owner ≡ taker ps v → k ≡ choiceOf ps v) → leadsAlready ps (colourOf ps) (taken ps round) v k ≡ true
+    unfolding round
     counted k b n = elim (cases-side (taker ps v) (position ps v .owner)) [
       | inl o ↦ let f = first-true (suits ps v) (degree ps v) (some-suits o) in sym (suits-led k) ∙ subst (λ (x : ℕ). suits ps v x ≡ true) (sym (n o ∙ choice-own o)) (f .passes)
       | inr o ↦ every-move o k b
@@ -146,20 +147,21 @@ module _ (ps : List Position) (lawful : Lawful ps) (v : ℕ) (h : v < length ps)
         let (k, b, e) = all-not (leadsAlready ps (colourOf ps) (taken ps (length ps)) v) (degree ps v) (sym (cond-false _ _ _ (other-same (taker ps v) _ (o ∙ sym (twice (position ps v .kind))))) ∙ unforced) in
         any-from same-colour (degree ps v) k b (kept-colour k b e)
 
-    suits-same : (k : ℕ) → suits ps v k ≡ same-colour k
-    unfolding same-colour
+    pub suits-same : (k : ℕ) → suits ps v k ≡ same (colourOf ps v) (colourOf ps (target ps v k))
     suits-same k = cond-false _ _ _ t
 
-    some-suited : position ps v .owner ≡ position ps v .kind → anyBelow (suits ps v) (degree ps v) ≡ true
+    pub some-suited : position ps v .owner ≡ position ps v .kind → anyBelow (suits ps v) (degree ps v) ≡ true
+    unfolding same-colour
     some-suited o = let (k, b, e) = any-at same-colour (degree ps v) (some-kept o) in any-from (suits ps v) (degree ps v) k b (suits-same k ∙ e)
 
-    choice-kept : position ps v .owner ≡ position ps v .kind → choiceOf ps v ≡ firstTrue (suits ps v) (degree ps v)
+    pub choice-kept : position ps v .owner ≡ position ps v .kind → choiceOf ps v ≡ firstTrue (suits ps v) (degree ps v)
     choice-kept o = cond-true _ _ _ (own-same (colourOf ps v) _ (o ∙ sym colour-kind))
 
     choice-none : position ps v .owner ≡ opposite (position ps v .kind) → choiceOf ps v ≡ 0
     choice-none o = cond-false _ _ _ (other-same (colourOf ps v) _ (o ∙ ap opposite (sym colour-kind)))
 
     counted-kept : (k : ℕ) → k < degree ps v → (position ps v .owner ≡ position ps v .kind → k ≡ choiceOf ps v) → same-colour k ≡ true
+    unfolding same-colour
     counted-kept k b n = elim (cases-side (position ps v .kind) (position ps v .owner)) [
       | inl o ↦ let f = first-true (suits ps v) (degree ps v) (some-suited o) in sym (suits-same k) ∙ subst (λ (x : ℕ). suits ps v x ≡ true) (sym (n o ∙ choice-kept o)) (f .passes)
       | inr o ↦ kept-colour k b (any-not (leadsAlready ps (colourOf ps) (taken ps (length ps)) v) (degree ps v) (sym (cond-true _ _ _ (own-same (taker ps v) _ o)) ∙ unforced) k b)
@@ -175,7 +177,7 @@ module _ (ps : List Position) (lawful : Lawful ps) (v : ℕ) (h : v < length ps)
     | inr t ↦ let p = o ∙ colour-left ps lawful v h t in let f = first-true (suits ps v) (degree ps v) (some-suited t p) in let e = choice-kept t p in omega (arith, f .below, e)
   ]
 
-  choice-zero : position ps v .owner ≡ opposite c → choiceOf ps v ≡ 0
+  pub choice-zero : position ps v .owner ≡ opposite c → choiceOf ps v ≡ 0
   choice-zero o = elim (cases-bool (taken ps (length ps) v)) [
     | inl t ↦ choice-other t (o ∙ ap opposite (colour-taken ps lawful v h t))
     | inr t ↦ choice-none t (o ∙ ap opposite (colour-left ps lawful v h t))

@@ -17,14 +17,14 @@ use Rattle.game.specs.Sheets.{entryOf, Coloured}
 use Rattle.game.specs.First.{allBelow}
 use Rattle.game.proofs.Sides.{cases-side, apart, number-same, own-same, other-same, same-true}
 use Rattle.game.proofs.Firsts.{all-at, all-decides}
-use Rattle.rounds.specs.Below.{anyBelow}
-use Rattle.rounds.specs.Rounds.{taker, leadsAlready, forced, taken, colourOf, rankOf, colouring}
-use Rattle.rounds.specs.Ruled.{Already, Forced, RuledAt, RuledByRounds}
-use Rattle.rounds.proofs.Belows.{any-at, any-from}
+use Rattle.rounds.specs.Below.{anyBelow, firstTrue}
+use Rattle.rounds.specs.Rounds.{taker, leadsAlready, forced, taken, colourOf, rankOf, suits, choiceOf, colouring}
+use Rattle.rounds.specs.Ruled.{Already, Forced, FirstMove, RuledAt, RuledByRounds}
+use Rattle.rounds.proofs.Belows.{any-at, any-from, first-true}
 use Rattle.rounds.proofs.Taking.{taken-next, taken-later, taken-enough}
 use Rattle.rounds.proofs.Levels.{colour-taken, colour-left}
 use Rattle.rounds.proofs.Ranks.{rank-none, rank-some, rank-says}
-use Rattle.rounds.proofs.Right.{colouring-entry, forced-then, twice}
+use Rattle.rounds.proofs.Right.{colouring-entry, forced-then, suits-led, some-suits, choice-own, suits-same, some-suited, choice-kept, choice-zero, twice}
 
 module _ (ps : List Position) (lawful : Lawful ps) where
   rank-few : (w : ℕ) → rankOf ps w ≤ length ps
@@ -99,13 +99,56 @@ module _ (ps : List Position) (lawful : Lawful ps) where
     forced-taken : Forced ps (colouring ps) r v → taken ps (suc r) v ≡ true
     forced-taken f = taken-next ps (colourOf ps) r v ∙ or-right _ _ (forced-by f)
 
+  module _ (v : ℕ) (h : v < length ps) where
+    chosen : entryOf (colouring ps) v .choice ≡ choiceOf ps v
+    chosen = ap (λ (x : Entry). x .choice) (colouring-entry ps v h)
+
+    -- a colour on the sheet is the colour
+    colour-read : (w : ℕ) (c : Side) → w < length ps → Coloured (colouring ps) w c → colourOf ps w ≡ c
+    colour-read w c b e = number-same _ _ (sym (coloured w b) ∙ e)
+
+    taken-by : Coloured (colouring ps) v (taker ps v) → taken ps (length ps) v ≡ true
+    taken-by c = elim (cases-bool (taken ps (length ps) v)) [ inl t ↦ t | inr t ↦ absurd (apart (position ps v .kind) (sym (colour-left ps lawful v h t) ∙ colour-read v (taker ps v) h c)) ]
+
+    left-by : Coloured (colouring ps) v (position ps v .kind) → taken ps (length ps) v ≡ false
+    left-by c = elim (cases-bool (taken ps (length ps) v)) [ inl t ↦ absurd (apart (position ps v .kind) (sym (colour-read v (position ps v .kind) h c) ∙ colour-taken ps lawful v h t)) | inr t ↦ t ]
+
+    choice-taken : position ps v .owner ≡ taker ps v → Coloured (colouring ps) v (taker ps v) → (r : ℕ) → entryOf (colouring ps) v .rank ≡ suc r → FirstMove ps v (Already ps (colouring ps) r v) (entryOf (colouring ps) v .choice)
+    choice-taken o c r e =
+        let t = taken-by c in
+        let f = first-true (suits ps v) (degree ps v) (some-suits ps lawful v h t o) in
+        let s = ranked v h in
+        let at : rankOf ps v - 1 ≡ r = omega arith in
+        subst (λ (k : ℕ). FirstMove ps v (Already ps (colouring ps) r v) k) (sym (chosen ∙ choice-own ps lawful v h t o))
+        (subst (λ (q : ℕ). FirstMove ps v (Already ps (colouring ps) q v) (firstTrue (suits ps v) (degree ps v))) at (record {
+          there = f .below;
+          leads = led-already (rankOf ps v - 1) v _ (f .below) (sym (suits-led ps lawful v h t _) ∙ f .passes);
+          before = λ j b a. both-ways _ (f .before j b) (suits-led ps lawful v h t j ∙ already-led (rankOf ps v - 1) v j (let z = f .below in omega arith) a);
+        }))
+
+    choice-left : position ps v .owner ≡ position ps v .kind → Coloured (colouring ps) v (position ps v .kind) → FirstMove ps v (λ w. Coloured (colouring ps) w (position ps v .kind)) (entryOf (colouring ps) v .choice)
+    choice-left o c =
+        let t = left-by c in
+        let kind = colour-left ps lawful v h t in
+        let f = first-true (suits ps v) (degree ps v) (some-suited ps lawful v h t o) in
+        subst (λ (k : ℕ). FirstMove ps v (λ w. Coloured (colouring ps) w (position ps v .kind)) k) (sym (chosen ∙ choice-kept ps lawful v h t o)) (record {
+          there = f .below;
+          leads = coloured _ (inside 0 v _ (f .below)) ∙ ap numberOf (sym (same-true (colourOf ps v) _ (sym (suits-same ps lawful v h t _) ∙ f .passes)) ∙ kind);
+          before = λ j b a.
+              let low : j < degree ps v = (let z = f .below in omega arith) in
+              both-ways _ (f .before j b) (suits-same ps lawful v h t j ∙ own-same (colourOf ps v) _ (colour-read (target ps v j) (position ps v .kind) (inside 0 v j low) a ∙ sym kind));
+        })
+
   ruled : RuledByRounds ps (colouring ps)
   ruled v h = record {
     side = elim (cases-bool (taken ps (length ps) v)) [ inl t ↦ inl (coloured v h ∙ ap numberOf (colour-taken ps lawful v h t)) | inr t ↦ inr (coloured v h ∙ ap numberOf (colour-left ps lawful v h t)) ];
-    taken = λ c. by-taking (elim (cases-bool (taken ps (length ps) v)) [ inl t ↦ t | inr t ↦ absurd (apart (position ps v .kind) (sym (colour-left ps lawful v h t) ∙ number-same _ _ (sym (coloured v h) ∙ c))) ]);
-    left = λ c.
-        let t : taken ps (length ps) v ≡ false = elim (cases-bool (taken ps (length ps) v)) [ inl t ↦ absurd (apart (position ps v .kind) (sym (number-same _ _ (sym (coloured v h) ∙ c)) ∙ colour-taken ps lawful v h t)) | inr t ↦ t ] in
-        (ranked v h ∙ rank-none ps (colourOf ps) (length ps) v t, λ r f. never t r (forced-taken r v f));
+    taken = λ c. by-taking (taken-by v h c);
+    left = λ c. (ranked v h ∙ rank-none ps (colourOf ps) (length ps) v (left-by v h c), λ r f. never (left-by v h c) r (forced-taken r v f));
+    choice = record {
+      taken = choice-taken v h;
+      left = choice-left v h;
+      other = λ c e o. chosen v h ∙ choice-zero ps lawful v h (o ∙ ap opposite (sym (colour-read v h v c h e)));
+    };
   }
     where
       -- what is taken at any time is taken by the end
