@@ -24,7 +24,7 @@ exchanged ps = map exchangedPosition ps
 abbrev pub ColoursExchanged : List Position → Type 0
 ColoursExchanged ps = (es fs : List Entry) → checked ps es ≡ None → checked (exchanged ps) fs ≡ None → (v : ℕ) → v < length ps → (c : Side) → Coloured es v c → Coloured fs v (opposite c)
 
--- The exchanged game answers as the game does, with the other side for owner and kind.
+-- For the contract of a private function, no promise rests on it: the exchanged game answers as the game does, with the other side for owner and kind.
 pub record AnswersExchanged (ps : List Position) : Type 0 where
   pub count : length (exchanged ps) ≡ length ps
   pub owner : (u : ℕ) → ownerAt (exchanged ps) u ≡ mapped opposite (ownerAt ps u)

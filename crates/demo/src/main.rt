@@ -96,17 +96,29 @@ fn show_pair(rt: &LibcRuntime, owner: Side) -> Result<(), AnyError> {
     match Pair::new(owner, first, 0, second, 3) {
         Ok(pair) => {
             let mut sheet = blank_sheet(rt.alloc(), pair.count())?;
-            if colour(&pair, &mut sheet).is_ok() && sheet.len() > 0 {
-                let Some(winner) = Side::from_number(sheet[0].colour) else {
-                    return Ok(());
-                };
-                println!(rt, "  {owner:?}'s head: {winner:?} wins from it")?;
+            let _ = colour(&pair, &mut sheet);
+            print!(rt, "  {owner:?}'s head: ")?;
+            match check(&pair, &sheet) {
+                Ok(()) => show_head(rt, &sheet)?,
+                Err(refusal) => println!(rt, "{refusal}")?,
             }
         }
         Err(e) => {
             let number = e.fault.number();
             println!(rt, "  refused {number}")?;
         }
+    }
+    Ok(())
+}
+
+// Who wins from position 0 by an accepted sheet.
+fn show_head(rt: &LibcRuntime, sheet: &[Entry]) -> Result<(), AnyError> {
+    let Some(entry) = sheet.first() else {
+        return Ok(());
+    };
+    match Side::from_number(entry.colour) {
+        Some(winner) => println!(rt, "{winner:?} wins from it")?,
+        None => println!(rt, "no side's colour")?,
     }
     Ok(())
 }

@@ -82,11 +82,7 @@ fn count_of(n: usize, m: usize) -> usize
     requires second { ⌜ m ≤ mostPositions ⌝ }
     ensures { λ r. ⌜ r ≡ countOf n m ⌝ }
 {
-    if 1 + n + m > MOST_POSITIONS {
-        n
-    } else {
-        1 + n + m
-    }
+    if fit_under_head(n, m) { 1 + n + m } else { n }
 }
 
 // Where position `u` lies in a pair of games with `n` and `m` positions.

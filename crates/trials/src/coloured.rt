@@ -41,7 +41,7 @@ pub(crate) fn exchanged(rt: &LibcRuntime, sheet: &[Entry]) -> Result<Vec<Entry>,
     let mut exchanged = Vec::new(rt.alloc());
     for entry in sheet {
         exchanged.push(Entry {
-            colour: entry.colour ^ 1,
+            colour: if entry.colour == 0 { 1 } else { 0 },
             choice: entry.choice,
             rank: entry.rank,
         })?;
