@@ -6,6 +6,7 @@ use game::arena::Game;
 use game::check::check;
 use game::refusal::RefusalDisplay;
 use game::sheet::Entry;
+use game::sheet::EntryPartialEq;
 use game::side::Side;
 use games::pair::Pair;
 use games::pair::PairGame;
@@ -14,7 +15,6 @@ use games::rows::Rows;
 use games::rows::RowsGame;
 use solver::colour::colour;
 use std::error::AnyError;
-use game::sheet::EntryPartialEq;
 
 // The row of the one-row case: Green's, level 0, kind Red, moving to itself.
 pub fn one_row() -> Row
