@@ -57,7 +57,7 @@ startIn n p = cond (ltb p n) p 0
 unfoldable pub paired : Side → List Position → ℕ → List Position → ℕ → List Position
 paired owner xs p ys q = cond (fits (length xs) (length ys)) (joined owner xs (startIn (length xs) p) ys (startIn (length ys) q)) xs
 
--- What follows where answer is the refusal, if any: with none the game is the joined one, and the colours agree.
+-- For the contract of a private function, no promise rests on it: answer is the refusal, if any, and with none the game is the joined one, and the colours agree.
 pub record Judged (owner : Side) (xs : List Position) (p : ℕ) (ys : List Position) (q : ℕ) (answer : Option Refused) : Type 0 where
   pub refusal : answer ≡ joinRefusal (length xs) p (length ys) q
   pub meaning : answer ≡ None → paired owner xs p ys q ≡ joined owner xs p ys q

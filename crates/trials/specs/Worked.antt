@@ -20,6 +20,7 @@ use Rattle.games.specs.Rows.{meaningOf, rowsRefusal}
 abbrev pub oneRow : List Row
 oneRow = record { owner = 0; level = 0; kind = 1; first = 0; count = 1 } ∷ []
 
+-- The list of targets: the row itself.
 abbrev pub oneTarget : List ℕ
 oneTarget = 0 ∷ []
 
