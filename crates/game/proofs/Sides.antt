@@ -2,6 +2,8 @@
 use Rattle.std.proofs.Common.{◌≡◌, ℕ, Bool, true, false, cond, eqb, ◌⊎◌, Some, None, Decides, Option, sym, refl, ap, ◌∙◌, inl, inr, arith}
 use Rattle.std.proofs.lemmas.Bool.{both_ways}
 use Rattle.std.proofs.lemmas.Bool.Decides.{nat_tests}
+use denote.Enum.Bare.{sameb}
+use Rattle.game.specs.contracts.side.Side.{the_type}
 use Rattle.game.specs.declared.side.Side.{Side}
 use Rattle.game.specs.declared.side.Side.TheVariants.{Green, Red}
 use Rattle.game.specs.Sides.{opposite, number_of, side_of, same}
@@ -39,9 +41,11 @@ other_same Green d e = ap (same Green) e
 other_same Red d e = ap (same Red) e
 
 -- what `==` says of a and a side that is d
-pub same_is : (r : Bool) (a b d : Side) → cond r (a ≡ b) (a ≡ b → ⊥) → b ≡ d → r ≡ same a d
-same_is true a b d e s = sym (own_same a d (sym s ∙ sym e))
-same_is false a b d e s = elim (cases_side a b) [ inl h ↦ absurd (e (sym h)) | inr h ↦ sym (other_same a d (sym s ∙ h)) ]
+pub same_is : (r : Bool) (a b d : Side) → r ≡ sameb the_type a b → b ≡ d → r ≡ same a d
+same_is r Green Green d e s = e ∙ sym (own_same Green d (sym s))
+same_is r Green Red d e s = e ∙ sym (other_same Green d (sym s))
+same_is r Red Green d e s = e ∙ sym (other_same Red d (sym s))
+same_is r Red Red d e s = e ∙ sym (own_same Red d (sym s))
 
 -- a test that asks one thing of c's side and another of the other side
 pub side_decides : (c d : Side) (x y : Bool) (P Q : Type 0) → Decides x P → Decides y Q → Decides (cond (same c d) x y) ((d ≡ c → P) × (d ≡ opposite c → Q))

@@ -6,4 +6,4 @@ use Rattle.game.proofs.check.rules_of_moves.Given as goal
 abbrev pub invariant-loop-k : goal.invariant-loop-k
 invariant-loop-k g l =
     let ps = g.G.Game.meaning l.game in
-    (l.keeps-colour ≡ all_below (keeps_colour ps l.sheet l.v) l.k) × (l.rank-falls ≡ all_below (rank_falls ps l.sheet l.v) l.k)
+    (l.keeps_colour ≡ all_below (keeps_colour ps l.sheet l.v) l.k) × (l.rank_falls ≡ all_below (rank_falls ps l.sheet l.v) l.k)

@@ -7,5 +7,5 @@ pub returns : goal.returns
 returns g c =
     let x = c.args.game.now in
     let ps = g.G.Game.meaning x in
-    let is : c.unwrap-or.result ≡ target ps c.args.v c.args.k = c.unwrap-or.ensures ∙ ap (λ o. unwrap_or o 0) c.target.ensures ∙ nth_or (position ps c.args.v).moves c.args.k in
+    let is : c.unwrap_or.result ≡ target ps c.args.v c.args.k = c.unwrap_or.ensures ∙ ap (λ o. unwrap_or o 0) c.target.ensures ∙ nth_or (position ps c.args.v).moves c.args.k in
     record { value = is; bound = subst (λ (n : ℕ). n < length ps) (sym is) (target_within ps (g.met.G.Game.bounded x) c.args.v c.args.k) }
