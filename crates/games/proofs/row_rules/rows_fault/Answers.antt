@@ -11,10 +11,10 @@ pub loop-i-init : goal.loop-i-init
 loop-i-init c = first_none _
 
 pub loop-i-preserved : goal.loop-i-preserved
-loop-i-preserved c = first_more _ _ c.loop-i.invariant (sym c.in-ok-row-fault.ensures)
+loop-i-preserved c = first_more _ _ c.loop-i.invariant (sym c.in_ok-row_fault.ensures)
 
-pub returns-in-err-row-fault : goal.returns-in-err-row-fault
-returns-in-err-row-fault c =
-    let out = err_from_is_err_and c.from-residual.result c.from-residual.ensures.1 in
+pub returns-in_err-row_fault : goal.returns-in_err-row_fault
+returns-in_err-row_fault c =
+    let out = err_from_is_err_and c.from_residual.result c.from_residual.ensures.1 in
     ap (told tells) out.1 ∙ ap (λ (e : RowsFault). Some (tells e)) out.2
-    ∙ fault_first _ _ c.loop-i.i _ c.if-not-is-count.ensures c.loop-i-test.true c.loop-i.invariant c.in-err-row-fault.ensures
+    ∙ fault_first _ _ c.loop-i.i _ c.if-not-is_count.ensures c.loop-i-test.true c.loop-i.invariant c.in_err-row_fault.ensures

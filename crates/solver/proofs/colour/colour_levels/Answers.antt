@@ -14,20 +14,20 @@ step f count done rounds result total h r e =
     let b = ap (sum_below f) (let z : count - (done + 1) ≡ count - 1 - done = omega arith in z) in
     omega arith
 
-pub overflow-add-rounds : goal.overflow-add-rounds
-overflow-add-rounds g c =
+pub overflow_add-rounds : goal.overflow_add-rounds
+overflow_add-rounds g c =
     let x = c.args.game.now in
     let ps = g.G.Game.meaning x in
     let law = lawful (g.met.G.Game.bounded x) (g.met.G.Game.monotone x) (g.met.G.Game.keeps x) in
-    let s = step (rounds_at ps) (length c.args.sheet.now) c.loop-done.done c.loop-done.rounds c.colour-level-rounds.result (rounds_of ps) c.loop-done-test.true (c.colour-level-rounds.ensures.rounds ∙ ap (rounds_at ps) c.level-after.ensures) c.loop-done.invariant.1 in
+    let s = step (rounds_at ps) (length c.args.sheet.now) c.loop-done.done c.loop-done.rounds c.colour_level-rounds.result (rounds_of ps) c.loop-done-test.true (c.colour_level-rounds.ensures.rounds ∙ ap (rounds_at ps) c.level_after.ensures) c.loop-done.invariant.1 in
     let m = rounds_most ps law in
     omega arith
 
 pub loop-done-preserved : goal.loop-done-preserved
 loop-done-preserved g c =
     let ps = g.G.Game.meaning c.args.game.now in (
-      λ v h up. c.colour-level-rounds.ensures.done v h (omega (arith, c.level-after.ensures)),
-      step (rounds_at ps) (length c.args.sheet.now) c.loop-done.done c.loop-done.rounds c.colour-level-rounds.result (rounds_of ps) c.loop-done-test.true (c.colour-level-rounds.ensures.rounds ∙ ap (rounds_at ps) c.level-after.ensures) c.loop-done.invariant.1,
+      λ v h up. c.colour_level-rounds.ensures.done v h (omega (arith, c.level_after.ensures)),
+      step (rounds_at ps) (length c.args.sheet.now) c.loop-done.done c.loop-done.rounds c.colour_level-rounds.result (rounds_of ps) c.loop-done-test.true (c.colour_level-rounds.ensures.rounds ∙ ap (rounds_at ps) c.level_after.ensures) c.loop-done.invariant.1,
     )
 
 pub returns : goal.returns

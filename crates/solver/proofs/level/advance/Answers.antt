@@ -14,10 +14,10 @@ returns-then-taken g c =
     let es = c.args.sheet.now in
     let v = c.args.v in
     let law = lawful (g.met.G.Game.bounded x) (g.met.G.Game.monotone x) (g.met.G.Game.keeps x) in
-    let mark = sym (c.mark.ensures ∙ mark_same c.other.result (taker ps v) (c.args.n + 1) (suc c.args.n) (c.other.ensures ∙ ap opposite c.kind-of.ensures) (add-one c.args.n)) in
+    let mark = sym (c.mark.ensures ∙ mark_same c.other.result (taker ps v) (c.args.n + 1) (suc c.args.n) (c.other.ensures ∙ ap opposite c.kind_of.ensures) (add-one c.args.n)) in
     record {
-      stage = subst (λ (e : Entry). Stage ps c.args.level c.args.n (suc v) (set es v e)) mark (stage_taken ps law c.args.level c.args.n v es c.requires.stage (omega (arith, c.requires.sized, c.requires.within)) c.requires.sized (sym c.is-taken-now-taken.ensures ∙ c.if-taken.true));
-      taken = c.is-taken-now-taken.ensures;
+      stage = subst (λ (e : Entry). Stage ps c.args.level c.args.n (suc v) (set es v e)) mark (stage_taken ps law c.args.level c.args.n v es c.requires.stage (omega (arith, c.requires.sized, c.requires.within)) c.requires.sized (sym c.is_taken_now-taken.ensures ∙ c.if-taken.true));
+      taken = c.is_taken_now-taken.ensures;
     }
 
 pub returns-else-taken : goal.returns-else-taken
@@ -26,6 +26,6 @@ returns-else-taken g c =
     let ps = g.G.Game.meaning x in
     let law = lawful (g.met.G.Game.bounded x) (g.met.G.Game.monotone x) (g.met.G.Game.keeps x) in
     record {
-      stage = stage_left ps law c.args.level c.args.n c.args.v c.args.sheet.now c.requires.stage (omega (arith, c.requires.sized, c.requires.within)) (sym c.is-taken-now-taken.ensures ∙ c.if-taken.false);
-      taken = c.is-taken-now-taken.ensures;
+      stage = stage_left ps law c.args.level c.args.n c.args.v c.args.sheet.now c.requires.stage (omega (arith, c.requires.sized, c.requires.within)) (sym c.is_taken_now-taken.ensures ∙ c.if-taken.false);
+      taken = c.is_taken_now-taken.ensures;
     }

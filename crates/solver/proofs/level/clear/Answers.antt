@@ -4,7 +4,7 @@ use Rattle.game.specs.Positions.{position}
 use Rattle.solver.specs.Stages.{Cleared}
 use Rattle.solver.proofs.Stages.{mark_same, cleared_here, cleared_other, cleared_all}
 use Rattle.solver.proofs.level.clear.Goals as goal
-use Rattle.solver.proofs.level.clear.Goals.{then-level-of-level, else-level-of-level}
+use Rattle.solver.proofs.level.clear.Goals.{then-level_of-level, else-level_of-level}
 
 pub loop-v-init : goal.loop-v-init
 loop-v-init g c = record { above = c.requires.above; passed = λ w b d e. absurd (omega arith) }
@@ -15,14 +15,14 @@ loop-v-preserved g c =
     let l = c.args.level in
     let v = c.loop-v.v in
     let es = c.loop-v.sheet in
-    subst (λ (i : ℕ). Cleared ps l i c.if-level-of-level.sheet) (sym (add-one v))
-    (elim c.if-level-of-level.branch [
-      | then-level-of-level w ↦
-          let mark = sym (w.mark.ensures ∙ mark_same w.kind-of.result (position ps v).kind 0 0 w.kind-of.ensures refl) in
+    subst (λ (i : ℕ). Cleared ps l i c.if-level_of-level.sheet) (sym (add-one v))
+    (elim c.if-level_of-level.branch [
+      | then-level_of-level w ↦
+          let mark = sym (w.mark.ensures ∙ mark_same w.kind_of.result (position ps v).kind 0 0 w.kind_of.ensures refl) in
           subst (λ xs. Cleared ps l (suc v) xs) (sym w.sheet-is) (subst (λ (e : Entry). Cleared ps l (suc v) (set es v e)) mark
-          (cleared_here ps l v es c.loop-v.invariant (omega (arith, c.loop-v.auto.sheet, c.requires.sized)) (omega (arith, c.loop-v-test.true, c.requires.sized)) (sym c.level-of.ensures ∙ w.if-level-of-level.true)))
-      | else-level-of-level w ↦
-          subst (λ xs. Cleared ps l (suc v) xs) (sym w.sheet-is) (cleared_other ps l v es c.loop-v.invariant (λ e. w.if-level-of-level.false (c.level-of.ensures ∙ e)))
+          (cleared_here ps l v es c.loop-v.invariant (omega (arith, c.loop-v.auto.sheet, c.requires.sized)) (omega (arith, c.loop-v-test.true, c.requires.sized)) (sym c.level_of.ensures ∙ w.if-level_of-level.true)))
+      | else-level_of-level w ↦
+          subst (λ xs. Cleared ps l (suc v) xs) (sym w.sheet-is) (cleared_other ps l v es c.loop-v.invariant (λ e. w.if-level_of-level.false (c.level_of.ensures ∙ e)))
     ])
 
 pub returns : goal.returns

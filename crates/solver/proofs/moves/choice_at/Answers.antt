@@ -11,7 +11,7 @@ returns-then-number-sheet g c =
     let es = c.args.sheet.now in
     let v = c.args.v in
     let law = lawful (g.met.G.Game.bounded x) (g.met.G.Game.monotone x) (g.met.G.Game.keeps x) in
-    c.first-suited.ensures ∙ choice_own ps law es c.requires.filled v (omega (arith, c.requires.sized, c.requires.here)) _ (c.number.ensures ∙ ap number_of c.owner-of.ensures) c.if-number-sheet.true
+    c.first_suited.ensures ∙ choice_own ps law es c.requires.filled v (omega (arith, c.requires.sized, c.requires.here)) _ (c.number.ensures ∙ ap number_of c.owner_of.ensures) c.if-number-sheet.true
 
 pub returns-else-number-sheet : goal.returns-else-number-sheet
 returns-else-number-sheet g c =
@@ -20,4 +20,4 @@ returns-else-number-sheet g c =
     let es = c.args.sheet.now in
     let v = c.args.v in
     let law = lawful (g.met.G.Game.bounded x) (g.met.G.Game.monotone x) (g.met.G.Game.keeps x) in
-    choice_other ps law es c.requires.filled v (omega (arith, c.requires.sized, c.requires.here)) _ (c.number.ensures ∙ ap number_of c.owner-of.ensures) c.if-number-sheet.false
+    choice_other ps law es c.requires.filled v (omega (arith, c.requires.sized, c.requires.here)) _ (c.number.ensures ∙ ap number_of c.owner_of.ensures) c.if-number-sheet.false

@@ -5,8 +5,8 @@ use Rattle.game.proofs.Checks.{lawful}
 use Rattle.solver.proofs.Choosing.{done_readable, rank_most, suits_same, suits_led}
 use Rattle.solver.proofs.moves.is_suited.Goals as goal
 
-pub leads-already-requires : goal.leads-already-requires
-leads-already-requires g c =
+pub leads_already-requires : goal.leads_already-requires
+leads_already-requires g c =
     let x = c.args.game.now in
     let ps = g.G.Game.meaning x in
     let es = c.args.sheet.now in
@@ -27,7 +27,7 @@ returns-then-rank-eq0 g c =
     let es = c.args.sheet.now in
     let v = c.args.v in
     let law = lawful (g.met.G.Game.bounded x) (g.met.G.Game.monotone x) (g.met.G.Game.keeps x) in
-    suits_same ps law es c.requires.filled v (omega (arith, c.requires.sized, c.requires.here)) c.args.k c.target-of.result c.target-of.ensures.value c.target-of.ensures.bound c.if-rank-eq0.true
+    suits_same ps law es c.requires.filled v (omega (arith, c.requires.sized, c.requires.here)) c.args.k c.target_of.result c.target_of.ensures.value c.target_of.ensures.bound c.if-rank-eq0.true
 
 pub returns-else-rank-eq0 : goal.returns-else-rank-eq0
 returns-else-rank-eq0 g c =
@@ -36,4 +36,4 @@ returns-else-rank-eq0 g c =
     let es = c.args.sheet.now in
     let v = c.args.v in
     let law = lawful (g.met.G.Game.bounded x) (g.met.G.Game.monotone x) (g.met.G.Game.keeps x) in
-    c.leads-already.ensures ∙ suits_led ps law es c.requires.filled v (omega (arith, c.requires.sized, c.requires.here)) c.args.k c.if-rank-eq0.false
+    c.leads_already.ensures ∙ suits_led ps law es c.requires.filled v (omega (arith, c.requires.sized, c.requires.here)) c.args.k c.if-rank-eq0.false
