@@ -1,4 +1,6 @@
 // Times the colouring and the check on large games. The rounds go to standard output, the times, which vary, to standard error.
+#![tactic(auto)]
+
 use anyhow::anyhow;
 use game::arena::Game;
 use game::check::check;

@@ -1,5 +1,7 @@
 // A tour of the library on a small game: make it, certify who wins where, see damaged sheets refused,
 // have the sheet filled in, and build larger games of it.
+#![tactic(auto)]
+
 mod example;
 mod show;
 

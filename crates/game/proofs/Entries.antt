@@ -1,15 +1,13 @@
 -- The rules at one entry, told in order.
-use Rattle.std.proofs.Common.{◌≡◌, ℕ, Bool, true, false, cond, not, ◌||◌, List, Some, None, Option, sym, refl, ap, ◌∙◌, arith}
+use Rattle.std.proofs.Common.{◌≡◌, ℕ, Bool, ◌||◌, List}
 use Rattle.std.specs.Option.{option_map}
-use Rattle.std.proofs.lemmas.Bool.{not-true}
 use Rattle.game.specs.declared.side.Side.{Side}
-use Rattle.game.specs.declared.side.Side.TheVariants.{Green, Red}
 use Rattle.game.specs.declared.sheet.Entry.{Entry}
-use Rattle.game.specs.Sides.{same, side_of}
+use Rattle.game.specs.Sides.{same}
 use Rattle.game.specs.Positions.{Position, position, degree}
 use Rattle.game.specs.Sheets.{entry_of}
-use Rattle.game.specs.Refusals.{Refused, refused_at}
-use Rattle.game.specs.Checking.{choice_fits, each_counting, keeps_colour, rank_fits, rank_falls, first_broken, broken_for, broken_by, refused_by}
+use Rattle.game.specs.Refusals.{refused_at}
+use Rattle.game.specs.Checking.{choice_fits, each_counting, keeps_colour, rank_fits, rank_falls, first_broken, broken_for}
 
 -- the rules at v, by tests of what is read there: its entry e, and how its owner and kind compare with the colour c
 pub broken_is : (ps : List Position) (es : List Entry) (v : ℕ) (e : Entry) → e ≡ entry_of es v

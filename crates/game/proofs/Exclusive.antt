@@ -1,15 +1,14 @@
 -- The two sides never both win from one position.
-use Rattle.std.proofs.Common.{◌≡◌, ℕ, zero, suc, ◌<◌, ◌≤◌, ◌⊎◌, List, length, get_or, sym, refl, ap, ◌∙◌, subst, inl, inr, arith}
+use Rattle.std.proofs.Common.{ℕ, zero, suc, ◌<◌, ◌≤◌, List, length, sym, refl, ap, subst, inl, inr, arith}
 use Rattle.std.proofs.lemmas.Bool.{cases_eq}
 use Rattle.game.specs.declared.side.Side.{Side}
 use Rattle.game.specs.declared.side.Side.TheVariants.{Green, Red}
-use Rattle.game.specs.Sides.{opposite}
 use Rattle.game.specs.Positions.{Position, position, degree, target, Leads}
 use Rattle.game.specs.Laws.{Lawful}
 use Rattle.game.specs.Winning.{Wins}
-use Rattle.game.proofs.Sides.{cases_side, apart}
+use Rattle.game.proofs.Sides.{cases_side}
 use Rattle.game.proofs.Pigeonhole.{twice}
-use Rattle.game.proofs.Paths.{Path, GoodPath, good_path}
+use Rattle.game.proofs.Paths.{GoodPath, good_path}
 
 abbrev choose : Side → ℕ → ℕ → ℕ
 choose Green a b = a

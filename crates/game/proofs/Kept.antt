@@ -1,16 +1,16 @@
 -- The check's tests decide the rules, so it accepts exactly the sheets that keep them.
-use Rattle.std.proofs.Common.{◌≡◌, ℕ, zero, suc, ◌<◌, ◌≤◌, Bool, true, false, cond, not, ◌||◌, eqb, ltb, leb, ◌⊎◌, List, length, Some, None, Decides, Option, sym, refl, ap, ◌∙◌, subst, inl, inr, arith}
+use Rattle.std.proofs.Common.{◌≡◌, ℕ, ◌<◌, Bool, true, ◌||◌, List, length, Some, None, Decides, Option, sym, refl, ap, ◌∙◌, subst, inl, inr, arith}
 use Rattle.std.specs.Option.{option_map}
 use Rattle.std.proofs.lemmas.Bool.{cond-true, eq-eqb, eqb-true, le-leb, leb-true}
 use Rattle.std.proofs.lemmas.Bool.Decides.{nat_tests, Decides-eqb, Decides-ltb, Decides-like}
 use Rattle.game.specs.declared.side.Side.{Side}
 use Rattle.game.specs.declared.sheet.Entry.{Entry}
-use Rattle.game.specs.Sides.{opposite, number_of, side_of, same}
-use Rattle.game.specs.Positions.{Position, position, degree, target, Leads}
+use Rattle.game.specs.Sides.{opposite, side_of, same}
+use Rattle.game.specs.Positions.{Position, position, degree, target}
 use Rattle.game.specs.Sheets.{entry_of, Coloured}
-use Rattle.game.specs.Rules.{ChoiceFits, Counts, MovesKeepColour, RankFits, RankFalls, KeepsAt, KeepsRules}
-use Rattle.game.specs.Refusals.{Refused, refused_at}
-use Rattle.game.specs.First.{first_below, all_below, unless}
+use Rattle.game.specs.Rules.{ChoiceFits, MovesKeepColour, RankFits, RankFalls, KeepsAt, KeepsRules}
+use Rattle.game.specs.Refusals.{refused_at}
+use Rattle.game.specs.First.{all_below}
 use Rattle.game.specs.Checking.{choice_fits, each_counting, keeps_colour, rank_fits, rank_falls, first_broken, broken_for, broken_by, refused_by, checked}
 use Rattle.game.proofs.Sides.{cases_side, apart, own_same, other_same, side_decides, side_number, number_side}
 use Rattle.game.proofs.Firsts.{all_decides, unless_none, first_clear, first_all}

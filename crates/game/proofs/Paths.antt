@@ -1,11 +1,11 @@
 -- A run as a function from places to positions: how a win is used.
-use Rattle.std.proofs.Common.{◌≡◌, ℕ, zero, suc, ◌+◌, ◌<◌, ◌≤◌, List, map, length, get_or, sym, refl, ap, ◌∙◌, subst, zero-add, arith}
+use Rattle.std.proofs.Common.{◌≡◌, ℕ, suc, ◌<◌, ◌≤◌, List, map, length, sym, ap, ◌∙◌, subst, zero-add, arith}
 use Rattle.std.specs.List.{range_with_len}
 use Rattle.std.proofs.lemmas.List.FromFn.{length-map-range_with_len, get_or-map-range_with_len}
 use Rattle.game.specs.declared.side.Side.{Side}
 use Rattle.game.specs.Sides.{opposite}
 use Rattle.game.specs.Positions.{Position, position, degree, Leads}
-use Rattle.game.specs.Winning.{place, Run, Follows, Good, Wins}
+use Rattle.game.specs.Winning.{place, Run, Follows, Wins}
 
 -- f goes n steps, each by a move, and by σ's where c owns the position
 pub record Path (ps : List Position) (c : Side) (σ : ℕ → ℕ) (n : ℕ) (f : ℕ → ℕ) : Type 0 where

@@ -1,5 +1,5 @@
 -- A sheet that keeps the rules says at each position who wins.
-use Rattle.std.proofs.Common.{◌≡◌, ℕ, ◌<◌, List, length, sym, refl, ap, ◌∙◌}
+use Rattle.std.proofs.Common.{◌≡◌, ℕ, List, sym, refl, ap, ◌∙◌}
 use Rattle.game.specs.declared.side.Side.{Side}
 use Rattle.game.specs.declared.side.Side.TheVariants.{Green, Red}
 use Rattle.game.specs.declared.sheet.Entry.{Entry}
@@ -7,7 +7,7 @@ use Rattle.game.specs.Sides.{number_of}
 use Rattle.game.specs.Positions.{Position}
 use Rattle.game.specs.Laws.{Lawful}
 use Rattle.game.specs.Winning.{Wins}
-use Rattle.game.specs.Sheets.{Coloured, Settles, SameColours}
+use Rattle.game.specs.Sheets.{Settles, SameColours}
 use Rattle.game.specs.Rules.{KeepsRules}
 use Rattle.game.proofs.Sound.{sound}
 use Rattle.game.proofs.Exclusive.{exclusive}

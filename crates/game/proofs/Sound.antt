@@ -1,10 +1,10 @@
 -- On a sheet that keeps the rules, the side that an entry names wins from there.
-use Rattle.std.proofs.Common.{◌≡◌, ℕ, zero, suc, ◌<◌, ◌≤◌, ◌⊎◌, List, length, get_or, sym, refl, ap, ◌∙◌, subst, inl, inr, arith}
+use Rattle.std.proofs.Common.{◌≡◌, ℕ, zero, suc, ◌<◌, ◌⊎◌, List, length, sym, refl, ap, ◌∙◌, subst, inl, inr, arith}
 use Rattle.std.proofs.lemmas.Bool.{cases_lt, cases_eq}
 use Rattle.game.specs.declared.side.Side.{Side}
 use Rattle.game.specs.declared.sheet.Entry.{Entry}
-use Rattle.game.specs.Sides.{opposite, number_of}
-use Rattle.game.specs.Positions.{Position, position, degree, Leads}
+use Rattle.game.specs.Sides.{opposite}
+use Rattle.game.specs.Positions.{Position, position, Leads}
 use Rattle.game.specs.Laws.{Lawful}
 use Rattle.game.specs.Winning.{place, Run, Follows, Good, Wins, Strategy}
 use Rattle.game.specs.Sheets.{entry_of, Coloured}

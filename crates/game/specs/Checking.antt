@@ -1,5 +1,5 @@
 -- The check's value: the first rule that a sheet breaks, at the first position that breaks one.
-use Rattle.std.specs.Prelude.{◌≡◌, ℕ, Bool, cond, not, ◌||◌, List, [], length, Some, None, Option, ◌==◌, nat_le, nat_lt}
+use Rattle.std.specs.Prelude.{◌≡◌, ℕ, Bool, cond, not, ◌||◌, List, length, Some, None, Option, ◌==◌, nat_le, nat_lt}
 use Rattle.std.specs.Option.{option_map}
 use Rattle.game.specs.declared.side.Side.{Side}
 use Rattle.game.specs.declared.sheet.Entry.{Entry}

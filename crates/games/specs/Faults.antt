@@ -1,14 +1,14 @@
 -- What lists without a fault keep.
-use Rattle.std.specs.Prelude.{◌≡◌, ℕ, ◌+◌, ◌<◌, ◌≤◌, Bool, true, false, cond, ◌&&◌, List, [], length, Some, None, Option, nat_le, slice_index, refl}
-use Rattle.std.proofs.Common.{sym, ◌∙◌, ap, arith}
+use Rattle.std.specs.Prelude.{◌≡◌, ℕ, ◌+◌, ◌<◌, ◌≤◌, true, ◌&&◌, List, length, Some, None, nat_le, slice_index}
+use Rattle.std.proofs.Common.{sym, ◌∙◌, arith}
 use Rattle.std.proofs.lemmas.Bool.{cond-true, and_parts, leb-true, ltb-true}
 use Rattle.std.proofs.lemmas.Bool.Decides.{nat_tests}
 use Rattle.game.specs.Laws.{most_positions, most_moves}
 use Rattle.game.specs.Refusals.{Refused, refused_at}
-use Rattle.game.specs.First.{first_below, all_below}
+use Rattle.game.specs.First.{first_below}
 use Rattle.game.proofs.Firsts.{first_found, first_clear, all_at, unless_none}
 use Rattle.games.specs.declared.row.Row.{Row}
-use Rattle.games.specs.Rows.{span_of, span_fits, is_inside, keeps_law, is_lawful, row_of, well_formed, keeps_laws, row_refusal, rows_refusal}
+use Rattle.games.specs.Rows.{span_of, is_inside, keeps_law, is_lawful, row_of, row_refusal, rows_refusal}
 
 module _ (rs : List Row) (ts : List ℕ) where
   -- the fault of row i is the first

@@ -1,5 +1,5 @@
 -- Which game two lists make, a list of rows and a list of targets, or why they make none.
-use Rattle.std.specs.Prelude.{ℕ, ◌+◌, Bool, cond, not, ◌&&◌, ◌||◌, List, map, length, take, drop, Some, None, Option, ◌==◌, nat_le, nat_lt, slice_index, slice_index_or}
+use Rattle.std.specs.Prelude.{ℕ, ◌+◌, Bool, cond, not, ◌&&◌, ◌||◌, List, map, length, take, drop, None, Option, ◌==◌, nat_le, nat_lt, slice_index, slice_index_or}
 use Rattle.game.specs.declared.side.Side.{Side}
 use Rattle.game.specs.declared.side.Side.TheVariants.{Green, Red}
 use Rattle.game.specs.Positions.{Position}

@@ -1,4 +1,6 @@
 // Ways to make a game.
+#![tactic(auto)]
+
 pub mod pair;
 pub mod pair_fault;
 pub mod row;

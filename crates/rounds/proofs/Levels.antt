@@ -1,11 +1,10 @@
 -- The colours, level by level: a level once done stays, so each colour is what the rounds of its level say beside the colours above.
-use Rattle.std.proofs.Common.{◌≡◌, ℕ, zero, suc, ◌+◌, ◌-◌, ◌<◌, ◌≤◌, Bool, true, false, cond, eqb, ◌⊎◌, List, length, sym, refl, ap, ◌∙◌, subst, inl, inr, arith}
+use Rattle.std.proofs.Common.{◌≡◌, ℕ, zero, suc, ◌+◌, ◌-◌, ◌<◌, ◌≤◌, true, false, cond, List, length, sym, refl, ap, ◌∙◌, inl, inr, arith}
 use Rattle.std.proofs.lemmas.Bool.{cases_eq, cond-true, cond-false, eq-eqb, ne_eqb}
-use Rattle.game.specs.declared.side.Side.{Side}
 use Rattle.game.specs.Positions.{Position, position}
 use Rattle.game.specs.Laws.{Lawful}
-use Rattle.rounds.specs.Rounds.{taker, taken_by, taken, colour_by, colours_after, colour_of}
-use Rattle.rounds.proofs.Taking.{Agree, AgreeAbove, taken_same}
+use Rattle.rounds.specs.Rounds.{taker, taken, colour_by, colours_after, colour_of}
+use Rattle.rounds.proofs.Taking.{AgreeAbove, taken_same}
 
 module _ (ps : List Position) where
   after_same : (n v : ℕ) → ((position ps v).level + suc n ≡ length ps → ⊥) → colours_after ps (suc n) v ≡ colours_after ps n v

@@ -1,6 +1,5 @@
 -- The colouring's sheet keeps the rules, so the check accepts it.
-use Rattle.std.proofs.Common.{◌≡◌, ℕ, zero, suc, ◌+◌, ◌-◌, ◌<◌, ◌≤◌, Bool, true, false, cond, ◌||◌, ltb, ◌⊎◌, List, map, length, get_or, sym, refl, ap, ◌∙◌, subst, inl, inr, zero-add, arith}
-use Rattle.std.specs.List.{range_with_len}
+use Rattle.std.proofs.Common.{◌≡◌, ℕ, suc, ◌-◌, ◌<◌, ◌≤◌, Bool, true, false, List, length, sym, refl, ap, ◌∙◌, subst, inl, inr, zero-add, arith}
 use Rattle.std.proofs.lemmas.List.FromFn.{length-map-range_with_len, get_or-map-range_with_len}
 use Rattle.std.proofs.lemmas.Bool.{cases_Bool, cases_lt, both_ways, cond-true, cond-false, lt-ltb, le-ltb, or_cases, or_parts}
 use Rattle.game.specs.declared.side.Side.{Side}
@@ -10,12 +9,11 @@ use Rattle.game.specs.Sides.{opposite, number_of, same}
 use Rattle.game.specs.Positions.{Position, position, degree, target, Leads}
 use Rattle.game.specs.Laws.{Lawful}
 use Rattle.game.specs.Sheets.{blank_entry, entry_of, Coloured}
-use Rattle.game.specs.Rules.{Counts, KeepsAt, KeepsRules}
-use Rattle.game.specs.First.{all_below}
+use Rattle.game.specs.Rules.{KeepsAt, KeepsRules}
 use Rattle.game.proofs.Sides.{cases_side, apart, own_same, other_same, same_true, same_false}
 use Rattle.game.proofs.Firsts.{all_at, all_not}
 use Rattle.rounds.specs.Below.{any_below, first_true}
-use Rattle.rounds.specs.Rounds.{taker, already, leads_already, forced, taken_by, taken, colour_of, rank_of, suits, choice_of, entry_for, colouring}
+use Rattle.rounds.specs.Rounds.{taker, leads_already, forced, taken, colour_of, rank_of, suits, choice_of, entry_for, colouring}
 use Rattle.rounds.proofs.Belows.{any_at, any_from, any_not, first_true_lem}
 use Rattle.rounds.proofs.Taking.{taken_next, taken_later, taken_enough}
 use Rattle.rounds.proofs.Levels.{colour_taken, colour_left}

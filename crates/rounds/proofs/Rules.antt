@@ -1,18 +1,17 @@
 -- The colouring's sheet is ruled by the rounds.
-use Rattle.std.proofs.Common.{◌≡◌, ℕ, zero, suc, ◌-◌, ◌<◌, ◌≤◌, Bool, true, false, ◌&&◌, leb, ◌⊎◌, List, length, sym, refl, ap, ◌∙◌, subst, inl, inr, arith}
+use Rattle.std.proofs.Common.{◌≡◌, ℕ, suc, ◌-◌, ◌<◌, ◌≤◌, true, false, ◌&&◌, leb, List, length, sym, refl, ap, ◌∙◌, subst, inl, inr, arith}
 use Rattle.std.proofs.lemmas.Bool.{cases_Bool, cases_lt, both_ways, cond-true, cond-false, and_from, and_parts, le-leb, leb-true, lt-ltb, le-ltb, or_right}
 use Rattle.game.specs.declared.side.Side.{Side}
 use Rattle.game.specs.declared.sheet.Entry.{Entry}
-use Rattle.game.specs.Sides.{opposite, number_of, same}
+use Rattle.game.specs.Sides.{opposite, number_of}
 use Rattle.game.specs.Positions.{Position, position, degree, target, Leads}
 use Rattle.game.specs.Laws.{Lawful}
 use Rattle.game.specs.Sheets.{entry_of, Coloured}
-use Rattle.game.specs.First.{all_below}
 use Rattle.game.proofs.Sides.{cases_side, apart, number_same, own_same, other_same, same_true}
 use Rattle.game.proofs.Firsts.{all_at, all_decides}
-use Rattle.rounds.specs.Below.{any_below, first_true}
+use Rattle.rounds.specs.Below.{first_true}
 use Rattle.rounds.specs.Rounds.{taker, leads_already, forced, taken, colour_of, rank_of, suits, choice_of, colouring}
-use Rattle.rounds.specs.Ruled.{Already, Forced, FirstMove, RuledAt, RuledByRounds}
+use Rattle.rounds.specs.Ruled.{Already, Forced, FirstMove, RuledByRounds}
 use Rattle.rounds.proofs.Belows.{any_at, any_from, first_true_lem}
 use Rattle.rounds.proofs.Taking.{taken_next, taken_later, taken_enough}
 use Rattle.rounds.proofs.Levels.{colour_taken, colour_left}

@@ -1,13 +1,13 @@
 -- What the rounds take: what is taken stays so, a level's rounds depend on nothing below it, and a level is done after as many rounds as there are positions.
-use Rattle.std.proofs.Common.{◌≡◌, ℕ, zero, suc, ◌+◌, ◌<◌, ◌≤◌, Bool, true, false, cond, not, ◌&&◌, ◌||◌, eqb, ltb, ◌⊎◌, List, length, sym, refl, ap, ◌∙◌, subst, inl, inr, add-zero, add-suc, arith}
-use Rattle.std.proofs.lemmas.Bool.{cases_Bool, cases_eq, cases_lt, both_ways, or_left, or_right, or_cases, cond-true, cond-false, lt-ltb, le-ltb, eq-eqb, eqb-true, and_from, and_right, and_parts, not_from_false, not-true}
+use Rattle.std.proofs.Common.{◌≡◌, ℕ, zero, suc, ◌<◌, ◌≤◌, Bool, true, false, not, ◌&&◌, ◌||◌, eqb, ◌⊎◌, List, length, sym, refl, ap, ◌∙◌, subst, inl, inr, arith}
+use Rattle.std.proofs.lemmas.Bool.{cases_Bool, cases_eq, cases_lt, both_ways, or_left, cond-true, cond-false, lt-ltb, le-ltb, eq-eqb, eqb-true, and_from, and_right, and_parts, not_from_false, not-true}
 use Rattle.game.specs.declared.side.Side.{Side}
-use Rattle.game.specs.Sides.{opposite, same}
+use Rattle.game.specs.Sides.{same}
 use Rattle.game.specs.Positions.{Position, position, degree, target, Leads}
 use Rattle.game.specs.Laws.{Lawful}
 use Rattle.rounds.specs.Below.{any_below, count_below}
-use Rattle.rounds.specs.Rounds.{taker, already, leads_already, forced, taken_by}
-use Rattle.rounds.proofs.Belows.{any_at, any_false, any_from, any_not, any_same, all_same, count_most, count_grows}
+use Rattle.rounds.specs.Rounds.{taker, leads_already, forced, taken_by}
+use Rattle.rounds.proofs.Belows.{any_at, any_false, any_not, any_same, all_same, count_most, count_grows}
 
 -- two readings of the same level agree
 pub record Agree (ps : List Position) (l : ℕ) (f g : ℕ → Bool) : Type 0 where

@@ -1,5 +1,5 @@
 -- Functions of the numbers below n.
-use Rattle.std.specs.Prelude.{ℕ, zero, suc, ◌+◌, max, Bool, true, false, cond, ◌||◌}
+use Rattle.std.specs.Prelude.{ℕ, zero, suc, ◌+◌, max, Bool, false, cond, ◌||◌}
 
 -- Whether f holds of some number below n.
 unfoldable pub any_below : (ℕ → Bool) → ℕ → Bool

@@ -1,5 +1,5 @@
 -- The choices, once colours and ranks are final.
-use Rattle.std.proofs.Common.{◌≡◌, ℕ, zero, suc, ◌-◌, ◌<◌, ◌≤◌, Bool, true, false, cond, ◌&&◌, eqb, leb, List, length, sym, refl, ap, ◌∙◌, subst, inl, inr, arith}
+use Rattle.std.proofs.Common.{◌≡◌, ℕ, ◌-◌, ◌<◌, ◌≤◌, true, false, ◌&&◌, eqb, leb, List, length, sym, refl, ap, ◌∙◌, inl, inr, arith}
 use Rattle.std.proofs.lemmas.Bool.{cases_Bool, cond-true, cond-false, eq-eqb, ne_eqb}
 use Rattle.game.specs.declared.side.Side.{Side}
 use Rattle.game.specs.declared.side.Side.TheVariants.{Green, Red}
@@ -12,7 +12,7 @@ use Rattle.rounds.specs.Below.{first_true}
 use Rattle.rounds.specs.Rounds.{leads_already, taken, colour_of, rank_of, suits, choice_of}
 use Rattle.rounds.proofs.Levels.{colour_is}
 use Rattle.rounds.proofs.Ranks.{rank_none, rank_some, rank_says}
-use Rattle.solver.specs.Stages.{Marked, DoneFrom, Readable}
+use Rattle.solver.specs.Stages.{DoneFrom, Readable}
 
 number_same : (c d : Side) → eqb (number_of d) (number_of c) ≡ same c d
 number_same Green Green = refl

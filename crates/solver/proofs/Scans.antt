@@ -1,9 +1,9 @@
 -- One loop for "some move" and "every move": it stops at the first move that decides.
-use Rattle.std.proofs.Common.{◌≡◌, ℕ, suc, ◌+◌, ◌<◌, ◌≤◌, Bool, true, false, cond, not, sym, refl, ap, ◌∙◌, add-one}
+use Rattle.std.proofs.Common.{◌≡◌, ℕ, ◌+◌, ◌<◌, Bool, true, false, cond, not, sym, refl, ap, ◌∙◌, add-one}
 use mathlib.Core.Bool.{beq}
 use Rattle.std.proofs.lemmas.Bool.{both_ways, or_from}
 use Rattle.game.specs.First.{all_below}
-use Rattle.game.proofs.Firsts.{all_none, all_step, all_stop}
+use Rattle.game.proofs.Firsts.{all_step, all_stop}
 use Rattle.rounds.specs.Below.{any_below}
 use Rattle.rounds.proofs.Belows.{any_from}
 

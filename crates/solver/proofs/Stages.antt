@@ -1,5 +1,5 @@
 -- How the sheet is filled in, entry by entry.
-use Rattle.std.proofs.Common.{◌≡◌, ℕ, zero, suc, ◌+◌, ◌<◌, ◌≤◌, Bool, true, false, cond, not, ◌&&◌, ◌||◌, eqb, leb, ◌≢◌, ◌⊎◌, List, length, get_or, set, sym, refl, ap, ◌∙◌, subst, inl, inr, arith}
+use Rattle.std.proofs.Common.{◌≡◌, ℕ, suc, ◌<◌, ◌≤◌, Bool, true, false, cond, not, ◌&&◌, ◌||◌, eqb, leb, ◌≢◌, ◌⊎◌, List, length, set, sym, refl, ap, ◌∙◌, subst, inl, inr, arith}
 use Rattle.std.proofs.lemmas.List.{get_or-set_same, get_or-set_other}
 use Rattle.std.proofs.lemmas.Bool.{cases_Bool, cases_eq, cases_lt, cond-true, cond-false, eq-eqb, ne_eqb, and_left, and_right, not_from_true}
 use Rattle.game.specs.declared.side.Side.{Side}
@@ -8,9 +8,8 @@ use Rattle.game.specs.Sides.{number_of}
 use Rattle.game.specs.Positions.{Position, position}
 use Rattle.game.specs.Laws.{Lawful}
 use Rattle.game.specs.Sheets.{blank_entry, entry_of}
-use Rattle.rounds.specs.Below.{any_below}
 use Rattle.rounds.specs.Rounds.{taker, forced, taken_by, taken, colour_of, rank_up_to, takes_at}
-use Rattle.rounds.proofs.Taking.{Agree, Still, taken_none, taken_next, not_taking, taking}
+use Rattle.rounds.proofs.Taking.{Agree, taken_none, taken_next, not_taking, taking}
 use Rattle.rounds.proofs.Levels.{colour_is}
 use Rattle.rounds.proofs.Ranks.{rank_none, rank_kept, rank_new, rank_later, rank_says}
 use Rattle.solver.specs.Stages.{Marked, DoneFrom, Stage, Cleared, Readable}

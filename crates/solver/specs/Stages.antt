@@ -1,6 +1,5 @@
 -- How far a sheet is filled in, for the contracts of private functions. No promise rests on this.
-use Rattle.std.specs.Prelude.{◌≡◌, ℕ, suc, ◌<◌, ◌≤◌, Bool, cond, ◌&&◌, List, length, nat_le}
-use Rattle.game.specs.declared.side.Side.{Side}
+use Rattle.std.specs.Prelude.{◌≡◌, ℕ, suc, ◌<◌, ◌≤◌, cond, ◌&&◌, List, length, nat_le}
 use Rattle.game.specs.declared.sheet.Entry.{Entry}
 use Rattle.game.specs.Sides.{number_of}
 use Rattle.game.specs.Positions.{Position, position}

@@ -1,4 +1,6 @@
 // The colouring: it fills in a game's sheet.
+#![tactic(auto)]
+
 pub mod colour;
 mod level;
 mod moves;

@@ -2,7 +2,6 @@
 use Rattle.std.specs.Prelude.{◌≡◌, ℕ, List, [], ◌∷◌, Some, None, Option}
 use Rattle.game.specs.declared.side.Side.{Side}
 use Rattle.game.specs.declared.side.Side.TheVariants.{Green, Red}
-use Rattle.game.specs.declared.sheet.Entry.{Entry}
 use Rattle.game.specs.Positions.{Position}
 use Rattle.game.specs.Sheets.{entry_of}
 use Rattle.game.specs.Refusals.{Refused, refused_at}

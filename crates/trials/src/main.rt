@@ -1,4 +1,6 @@
 // Cases whose answers are known from elsewhere, run: the rules' worked cases, and games with the answers of another checker.
+#![tactic(auto)]
+
 mod coloured;
 mod numbers;
 mod pair_cases;

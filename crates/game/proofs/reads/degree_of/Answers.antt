@@ -1,4 +1,4 @@
-use Rattle.std.proofs.Common.{◌≡◌, length, unwrap_or, ap, ◌∙◌}
+use Rattle.std.proofs.Common.{length, unwrap_or, ap, ◌∙◌}
 use Rattle.game.proofs.Answered.{read_or}
 use Rattle.game.proofs.reads.degree_of.Goals as goal
 

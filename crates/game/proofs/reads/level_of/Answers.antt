@@ -1,4 +1,4 @@
-use Rattle.std.proofs.Common.{◌≡◌, unwrap_or, ap, ◌∙◌}
+use Rattle.std.proofs.Common.{unwrap_or, ap, ◌∙◌}
 use Rattle.game.specs.Positions.{blank}
 use Rattle.game.proofs.Answered.{read_or}
 use Rattle.game.proofs.reads.level_of.Goals as goal

@@ -1,4 +1,4 @@
-use Rattle.std.proofs.Common.{◌≡◌, suc, ◌+◌, set, sym, ap, ◌∙◌, subst, add-one, arith}
+use Rattle.std.proofs.Common.{suc, ◌+◌, set, sym, ap, ◌∙◌, subst, add-one, arith}
 use Rattle.game.specs.declared.sheet.Entry.{Entry}
 use Rattle.game.specs.Sides.{opposite}
 use Rattle.game.proofs.Checks.{lawful}

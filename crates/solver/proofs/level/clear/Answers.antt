@@ -1,4 +1,4 @@
-use Rattle.std.proofs.Common.{◌≡◌, ℕ, suc, length, set, sym, refl, ◌∙◌, subst, add-one, arith}
+use Rattle.std.proofs.Common.{ℕ, suc, set, sym, refl, ◌∙◌, subst, add-one, arith}
 use Rattle.game.specs.declared.sheet.Entry.{Entry}
 use Rattle.game.specs.Positions.{position}
 use Rattle.solver.specs.Stages.{Cleared}

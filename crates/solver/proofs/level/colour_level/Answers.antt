@@ -1,9 +1,9 @@
-use Rattle.std.proofs.Common.{◌≡◌, ℕ, suc, ◌<◌, ◌≤◌, length, sym, refl, ap, ◌∙◌, subst, add-one, arith}
+use Rattle.std.proofs.Common.{◌≡◌, ℕ, suc, ◌<◌, length, sym, refl, ap, ◌∙◌, subst, add-one, arith}
 use Rattle.game.proofs.Checks.{lawful}
 use Rattle.rounds.specs.Below.{count_below}
-use Rattle.rounds.specs.Rounds.{adds, taken_by, colour_of}
+use Rattle.rounds.specs.Rounds.{adds, colour_of}
 use Rattle.rounds.proofs.Belows.{count_none, count_full, count_stop}
-use Rattle.rounds.proofs.Taking.{Agree, still_if, still_later, none_later}
+use Rattle.rounds.proofs.Taking.{still_if, still_later, none_later}
 use Rattle.solver.specs.Stages.{Stage}
 use Rattle.solver.proofs.Stages.{level_done}
 use Rattle.solver.proofs.level.colour_level.Goals as goal

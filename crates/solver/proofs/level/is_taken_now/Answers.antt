@@ -1,4 +1,4 @@
-use Rattle.std.proofs.Common.{◌≡◌, ℕ, ◌<◌, length, sym, ◌∙◌, subst, arith}
+use Rattle.std.proofs.Common.{ℕ, sym, ◌∙◌, subst, arith}
 use Rattle.game.proofs.Checks.{lawful}
 use Rattle.solver.specs.Stages.{Readable}
 use Rattle.solver.proofs.Stages.{stage_readable, takes_other, takes_ranked, takes_forced}

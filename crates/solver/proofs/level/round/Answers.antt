@@ -1,4 +1,4 @@
-use Rattle.std.proofs.Common.{◌≡◌, ℕ, suc, ◌||◌, length, sym, ap, ◌∙◌, subst, add-one, arith}
+use Rattle.std.proofs.Common.{◌≡◌, ℕ, ◌||◌, length, sym, ap, ◌∙◌, subst, add-one, arith}
 use Rattle.rounds.specs.Below.{any_below}
 use Rattle.rounds.specs.Rounds.{takes_at}
 use Rattle.rounds.proofs.Belows.{any_none, any_more}

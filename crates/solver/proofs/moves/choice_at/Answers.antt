@@ -1,4 +1,4 @@
-use Rattle.std.proofs.Common.{◌≡◌, ap, ◌∙◌, arith}
+use Rattle.std.proofs.Common.{ap, ◌∙◌, arith}
 use Rattle.game.specs.Sides.{number_of}
 use Rattle.game.proofs.Checks.{lawful}
 use Rattle.solver.proofs.Choosing.{choice_own, choice_other}

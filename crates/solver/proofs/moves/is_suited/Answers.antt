@@ -1,4 +1,4 @@
-use Rattle.std.proofs.Common.{◌≡◌, ◌-◌, ◌<◌, ◌≤◌, length, ◌∙◌, arith}
+use Rattle.std.proofs.Common.{◌-◌, ◌<◌, length, ◌∙◌, arith}
 use Rattle.game.specs.Positions.{position}
 use Rattle.game.specs.Sheets.{entry_of}
 use Rattle.game.proofs.Checks.{lawful}
