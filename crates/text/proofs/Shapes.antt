@@ -2,11 +2,10 @@
 use Rattle.std.proofs.Common.{◌≡◌, ℕ, Bool, true, false, cond, List, [], ◌∷◌, Some, None, Option, sym, refl, ap, ◌∙◌, arith}
 use Rattle.std.specs.Option.{option_or}
 use Rattle.std.specs.Bool.{then_some}
-use Rattle.text.specs.declared.class.Class.{Class}
 use Rattle.text.specs.declared.place.Place.{Place}
 use Rattle.text.specs.declared.shape.Shape.{Shape}
 use Rattle.text.specs.Refusals.{Refused}
-use Rattle.text.specs.Tokens.{Lexeme, lexeme_refusal, lexical_refusal}
+use Rattle.text.specs.Tokens.{Lexeme, lexical_refusal}
 use Rattle.text.specs.Reading.{next_refusal}
 use Rattle.text.specs.Forms.{shape_after, shape_of, is_deep, deep_place}
 

@@ -8,7 +8,7 @@ use Rattle.text.specs.declared.token.Token.TheVariants as token
 use Rattle.text.specs.declared.token.Taken.{Taken}
 use Rattle.text.specs.declared.lines.Line as declared
 use Rattle.text.specs.Refusals.{Refused}
-use Rattle.text.specs.Lines.{Line, lines_of}
+use Rattle.text.specs.Lines.{lines_of}
 use Rattle.text.specs.Tokens.{Lexeme, lexemes, lexeme_refusal}
 
 -- A token as a lexeme.

@@ -1,4 +1,6 @@
 // Reading tables and properties from text. It uses no other crate and allocates nothing.
+#![tactic(auto)]
+
 pub mod class;
 mod line;
 mod lines;

@@ -1,4 +1,4 @@
-use Rattle.std.proofs.Common.{◌≡◌, ℕ, ◌+◌, ◌-◌, ◌*◌, ◌≤◌, min, List, get_or, take, sym, ap, ◌∙◌, arith}
+use Rattle.std.proofs.Common.{◌≡◌, ℕ, ◌+◌, ◌-◌, ◌*◌, min, List, get_or, take, sym, ap, ◌∙◌, arith}
 use Rattle.text.specs.Tokens.{numeral}
 use Rattle.std.proofs.lemmas.List.{take_all}
 use Rattle.std.proofs.lemmas.List.Sums.{fold_more}
@@ -15,7 +15,7 @@ loop-digit-preserved c =
     let e = fold_more (λ (v b : ℕ). 10 * v + (b - 48)) 0 xs i 0 (omega arith) in
     let h = c.loop-digit.invariant in
     let more = cap-more (numeral (take i xs)) (get_or xs i 0 - 48) c.loop-digit.value h.1 in
-    let d : c.from.result ≡ get_or xs i 0 - 48 = c.from.ensures ∙ c.saturating-sub.ensures in
+    let d : c.from.result ≡ get_or xs i 0 - 48 = c.from.ensures ∙ c.saturating_sub.ensures in
     (omega arith, c.min-value.ensures ∙ ap (λ (m : ℕ). min (10 * c.loop-digit.value + m) 65536) d ∙ more ∙ ap (λ (m : ℕ). min m 65536) (sym e))
 
 pub returns : goal.returns

@@ -1,4 +1,4 @@
-use Rattle.std.proofs.Common.{ℕ, ◌+◌, List, [], ◌∷◌, drop, sym, refl, ap, ◌∙◌, arith}
+use Rattle.std.proofs.Common.{ℕ, ◌+◌, [], ◌∷◌, drop, sym, refl, ap, ◌∙◌, arith}
 use Rattle.text.specs.declared.class.Class.TheVariants.{Opening, Closing, LineFeed, Other}
 use Rattle.text.specs.Tokens.{lexemes}
 use Rattle.text.specs.Reading.{next_refusal}
