@@ -1,12 +1,12 @@
 -- On an accepted sheet the calls come to what the plain play says, and the house holds.
-use Rattle.std.proofs.Common.{◌≡◌, ℕ, zero, suc, ◌-◌, ◌<◌, ◌≤◌, Bool, true, false, cond, ◌&&◌, eqb, ltb, List, [], ◌∷◌, ◌++◌, length, IfErr, Some, None, Ok, Err, Option, Result, unwrap_or, sym, refl, ap, ◌∙◌, subst, inl, inr, arith}
+use Rattle.std.proofs.Common.{◌≡◌, ℕ, zero, suc, ◌-◌, ◌<◌, Bool, true, false, cond, ◌&&◌, ltb, List, [], ◌∷◌, length, IfErr, Some, None, Ok, Option, Result, unwrap_or, sym, refl, ap, ◌∙◌, subst, inl, inr, arith}
 use Rattle.std.specs.Option.{option_map}
 use Rattle.std.specs.List.{AllByRecursion as All}
 use Rattle.std.proofs.lemmas.Bool.{cases_Bool, cond-true, cond-false, lt-ltb, ltb-true, eqb-true}
 use Rattle.game.specs.declared.side.Side.{Side}
 use Rattle.game.specs.declared.side.Side.TheVariants.{Green}
 use Rattle.game.specs.declared.sheet.Entry.{Entry}
-use Rattle.game.specs.Sides.{opposite, number_of, same}
+use Rattle.game.specs.Sides.{number_of, same}
 use Rattle.game.specs.Positions.{Position, position, degree, target, Leads}
 use Rattle.game.specs.Laws.{Lawful}
 use Rattle.game.specs.Winning.{place, Run, Follows, Good}
@@ -22,10 +22,9 @@ use Rattle.game.proofs.Sound.{keeps_for, stays, good}
 use Rattle.plain.specs.declared.call.Call.{Call}
 use Rattle.plain.specs.declared.call.Call.TheVariants.{Go, Reply}
 use Rattle.plain.specs.declared.standing.Turn.TheVariants as turn
-use Rattle.plain.specs.declared.standing.Record.{Record}
 use Rattle.plain.specs.declared.standing.Standing.{Standing}
-use Rattle.plain.specs.Plain.{most_steps, stands_at, steps_of, record_of, turn_at, standing, standing_of, comes, move_of, refusal_of, entering, after_call, answered, answer_of, answers_of, after_calls, HasLost, house_of, plain_first, plain_answers, plain_run, plain_record}
-use Rattle.plain.specs.Calls.{sheet_refused, set_out_refusal, set_out_of, fits_turn, call_refusal, step_to, call_of, next_of, answers_from, standing_after}
+use Rattle.plain.specs.Plain.{most_steps, stands_at, steps_of, record_of, turn_at, standing, standing_of, comes, move_of, refusal_of, entering, after_call, answered, answer_of, answers_of, after_calls, HasLost, house_of, plain_first, plain_run}
+use Rattle.plain.specs.Calls.{sheet_refused, set_out_of, fits_turn, call_refusal, step_to, call_of, next_of, answers_from, standing_after}
 use Rattle.plain.specs.PlayPromise.{AnswersPlainly, HouseNeverLoses, PlaysAsPromised}
 use Rattle.plain.proofs.Runs.{record_push, last_within, run_push, follows_push}
 use Rattle.plain.proofs.Turns.{caller_of, comes_owned, turn_fits}

@@ -1,14 +1,12 @@
 -- A run, one position longer: where it stands, what it has entered, and that it is a run and follows a strategy still.
-use Rattle.std.proofs.Common.{◌≡◌, ℕ, zero, suc, ◌+◌, ◌-◌, ◌<◌, ◌≤◌, Bool, cond, List, [], ◌∷◌, ◌++◌, length, get_or, drop, count_by, sym, refl, ap, ◌∙◌, subst, inl, inr, arith}
+use Rattle.std.proofs.Common.{◌≡◌, ℕ, suc, ◌+◌, ◌-◌, ◌<◌, cond, List, [], ◌∷◌, ◌++◌, length, get_or, drop, count_by, sym, refl, ap, ◌∙◌, subst, inl, inr, arith}
 use Rattle.std.proofs.lemmas.List.{get_or_append_left, get_or_push, length_push, drop-append-le}
 use Rattle.std.proofs.lemmas.List.Sums.{sum_by_push}
 use Rattle.std.proofs.lemmas.Bool.{cases_lt}
 use Rattle.game.specs.declared.side.Side.{Side}
 use Rattle.game.specs.Sides.{opposite, same}
 use Rattle.game.specs.Positions.{Position, position, Leads}
-use Rattle.game.specs.Laws.{Bounded}
 use Rattle.game.specs.Winning.{place, Run, Follows}
-use Rattle.plain.specs.declared.standing.Record.{Record}
 use Rattle.plain.specs.Plain.{stands_at, steps_of, entered_of, record_of}
 use Rattle.plain.specs.Calls.{step_to}
 

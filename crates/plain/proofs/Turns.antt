@@ -1,5 +1,5 @@
 -- What a turn tells of the position where the play stands.
-use Rattle.std.proofs.Common.{◌≡◌, ℕ, ◌<◌, Bool, true, false, cond, ◌&&◌, eqb, ltb, List, length, sym, refl, ap, ◌∙◌, arith}
+use Rattle.std.proofs.Common.{◌≡◌, ℕ, ◌<◌, Bool, true, false, cond, eqb, List, length, refl, ap, ◌∙◌, arith}
 use Rattle.std.proofs.lemmas.Bool.{and_from, eq-eqb, lt-ltb}
 use Rattle.game.specs.declared.side.Side.{Side}
 use Rattle.game.specs.declared.side.Side.TheVariants.{Green, Red}
@@ -8,7 +8,6 @@ use Rattle.game.specs.Sides.{opposite, same}
 use Rattle.game.specs.Positions.{Position, position, degree}
 use Rattle.plain.specs.declared.call.Call.{Call}
 use Rattle.plain.specs.declared.call.Call.TheVariants.{Go, Reply}
-use Rattle.plain.specs.declared.standing.Turn.{Turn}
 use Rattle.plain.specs.declared.standing.Turn.TheVariants as turn
 use Rattle.plain.specs.Plain.{turn_at, comes}
 use Rattle.plain.specs.Calls.{fits_turn}

@@ -1,12 +1,10 @@
 -- How far a list of calls has come: what is left decides.
-use Rattle.std.proofs.Common.{◌≡◌, ℕ, ◌+◌, ◌<◌, ◌≤◌, Bool, true, false, cond, List, [], ◌∷◌, ◌++◌, map, length, get_or, take, drop, set, Some, None, Option, Result, sym, refl, ap, ◌∙◌, arith}
-use Rattle.std.specs.Option.{option_map}
+use Rattle.std.proofs.Common.{◌≡◌, ℕ, ◌+◌, ◌<◌, ◌≤◌, Bool, true, false, cond, List, [], ◌∷◌, ◌++◌, map, length, get_or, take, drop, set, Some, None, Result, sym, refl, ap, ◌∙◌, arith}
 use Rattle.std.specs.Bool.{then_some}
-use Rattle.std.proofs.lemmas.List.{append-nil, append_assoc, length-map, length-take-le, length-append, at_drop_more, at_drop_all, take_more_set, map_push, drop-set-lt, drop-drop}
+use Rattle.std.proofs.lemmas.List.{append-nil, append_assoc, length-map, length-take-le, at_drop_more, at_drop_all, take_more_set, map_push, drop-set-lt, drop-drop}
 use Rattle.std.proofs.lemmas.Bool.{cond-true, cond-false}
 use Rattle.game.specs.declared.sheet.Entry.{Entry}
 use Rattle.game.specs.Positions.{Position}
-use Rattle.game.specs.Refusals.{Refused}
 use Rattle.plain.specs.declared.call.Call.{Call}
 use Rattle.plain.specs.declared.call.Call.TheVariants.{Go}
 use Rattle.plain.specs.declared.standing.Standing.{Standing}

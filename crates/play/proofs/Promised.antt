@@ -1,8 +1,7 @@
 -- The whole promise, from what is proved of each part.
-use Rattle.std.proofs.Common.{◌≡◌, ℕ, List, length, None, sym, refl, ap, ◌∙◌}
+use Rattle.std.proofs.Common.{◌≡◌, ℕ, List, length, None, refl}
 use Rattle.std.proofs.lemmas.Bool.{cond-true, eq-eqb, and_parts, ltb-true, leb-true}
 use Rattle.game.specs.declared.side.Side.{Side}
-use Rattle.game.specs.declared.sheet.Entry.{Entry}
 use Rattle.game.specs.Positions.{Position}
 use Rattle.game.specs.Laws.{Lawful}
 use Rattle.game.specs.Refusals.{refused}
@@ -15,7 +14,7 @@ use Rattle.combine.proofs.Exchanges.{exchanged_lawful, colours_exchanged}
 use Rattle.combine.proofs.Joins.{joined_lawful, colours_joined}
 use Rattle.rounds.proofs.Right.{colouring_keeps}
 use Rattle.rounds.proofs.Rules.{colouring_ruled}
-use Rattle.rounds.specs.Rounds.{colouring, filled_sheet}
+use Rattle.rounds.specs.Rounds.{colouring}
 use Rattle.plain.proofs.Plays.{plays}
 use Rattle.play.specs.Promise.{ColoursTellWinners, RightSheetsAccepted, SwappedExchanges, PairJoins, Promise}
 

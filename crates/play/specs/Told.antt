@@ -1,5 +1,5 @@
 -- What the answers of the calls tell.
-use Rattle.std.specs.Prelude.{List, [], Result}
+use Rattle.std.specs.Prelude.{Result}
 use Rattle.std.specs.Result.{result_map_both}
 use Rattle.game.specs.Refusals.{Refused, refused, tells}
 use Rattle.plain.specs.declared.standing.Turn.TheVariants as turn

@@ -1,5 +1,7 @@
 // Plays: a sheet answers for the house, a person for the guest, and each call takes the turn that it is made
 // on by value.
+#![tactic(auto)]
+
 pub mod calls;
 mod ended;
 mod guest;

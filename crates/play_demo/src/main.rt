@@ -1,4 +1,6 @@
 // A play on a small game, by its sheet and a list of calls.
+#![tactic(auto)]
+
 mod example;
 mod plays;
 

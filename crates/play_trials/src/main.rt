@@ -1,5 +1,7 @@
 // Plays whose answers are known from elsewhere, run: with the answers of another checker, at their most
 // steps, and with another game or sheet.
+#![tactic(auto)]
+
 mod numbers;
 mod parts;
 mod play_cases;

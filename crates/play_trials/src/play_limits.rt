@@ -97,9 +97,9 @@ fn guest_turn(game: &Rows, sheet: &[Entry], at: usize) -> anyhow::Result<GuestTu
 fn show_outcome<T: Drop>(
     rt: &HostRuntime,
     name: &str,
-    res: Result<Outcome, play::refusal::TurnRefused<T>>,
+    called: Result<Outcome, play::refusal::TurnRefused<T>>,
 ) -> anyhow::Result<()> {
-    match res {
+    match called {
         Ok(_) => println!(rt; "{name}: made")?,
         Err(e) => {
             let number = e.refusal.number();

@@ -1,4 +1,6 @@
 // How turns are used, in functions that build. What must not build are edits of these, in must-not-build/.
+#![tactic(auto)]
+
 ghost use Rattle.std.specs.Prelude.{◌≡◌, is_ok, IfErr};
 ghost use Rattle.plain.specs.declared.call.Call.TheVariants.{Go, Reply};
 ghost use Rattle.plain.specs.declared.standing.Record.{Record};

@@ -1,4 +1,6 @@
 // Plays a small game from the terminal: the sheet answers for the house, you reply for the guest.
+#![tactic(auto)]
+
 mod example;
 mod session;
 mod show;

@@ -8,11 +8,11 @@ pub loop-i-init : goal.loop-i-init
 loop-i-init g c = begun _ _ _ _ _
 
 pub loop-i-preserved : goal.loop-i-preserved
-loop-i-preserved g c = again _ _ _ _ _ _ _ _ c.loop-i.invariant (omega arith) c.loop-i-test.true _ c.make-call-made.ensures.next _ (ap (option_map answer_told) (sym c.in-Some.is) ∙ c.make-call-made.ensures.answer)
+loop-i-preserved g c = again _ _ _ _ _ _ _ _ c.loop-i.invariant (omega arith) c.loop-i-test.true _ c.make_call-made.ensures.next _ (ap (option_map answer_told) (sym c.in-Some.is) ∙ c.make_call-made.ensures.answer)
 
 pub returns-in-None : goal.returns-in-None
 returns-in-None g c =
-    let q = stopped _ _ _ _ _ _ _ _ c.loop-i.invariant (omega arith) c.loop-i-test.true _ c.make-call-made.ensures.next (ap (option_map answer_told) (sym c.in-None.is) ∙ c.make-call-made.ensures.answer) in
+    let q = stopped _ _ _ _ _ _ _ _ c.loop-i.invariant (omega arith) c.loop-i-test.true _ c.make_call-made.ensures.next (ap (option_map answer_told) (sym c.in-None.is) ∙ c.make_call-made.ensures.answer) in
     record { made = q.0; answers = q.1; outcome = q.2 }
 
 pub returns : goal.returns

@@ -5,9 +5,9 @@ use Rattle.play.proofs.Promised.{promise}
 use Rattle.play.proofs.Played.{misfit, not_set_out, is_set_out, written, played}
 use Rattle.play.proofs.calls.play_calls.Goals as goal
 
-pub returns-then-not-fits-calls : goal.returns-then-not-fits-calls
-returns-then-not-fits-calls g c = record {
-  refusal = misfit (g.G.Game.meaning c.args.game.now) c.args.sheet.now c.args.start c.args.calls.now (length c.args.answers.now) c.if-not-fits-calls.ensures;
+pub returns-then-not-fits_calls : goal.returns-then-not-fits_calls
+returns-then-not-fits_calls g c = record {
+  refusal = misfit (g.G.Game.meaning c.args.game.now) c.args.sheet.now c.args.start c.args.calls.now (length c.args.answers.now) c.if-not-fits_calls.ensures;
   played = tt;
   answers = refl;
   promise = promise;
@@ -15,7 +15,7 @@ returns-then-not-fits-calls g c = record {
 
 pub returns-in-Err : goal.returns-in-Err
 returns-in-Err g c = record {
-  refusal = not_set_out (g.G.Game.meaning c.args.game.now) c.args.sheet.now c.args.start c.args.calls.now (length c.args.answers.now) c.if-not-fits-calls.ensures (set_out_tells c.in-Err.refusal) c.in-Err.ensures;
+  refusal = not_set_out (g.G.Game.meaning c.args.game.now) c.args.sheet.now c.args.start c.args.calls.now (length c.args.answers.now) c.if-not-fits_calls.ensures (set_out_tells c.in-Err.refusal) c.in-Err.ensures;
   played = tt;
   answers = refl;
   promise = promise;
@@ -30,12 +30,12 @@ returns-in-Ok g c =
     let law = g.met.G.Game in
     let places = length c.args.answers.now in
     let first = outcome_tells c.in-Ok.outcome in
-    let fits = c.if-not-fits-calls.ensures in
+    let fits = c.if-not-fits_calls.ensures in
     let e = c.in-Ok.ensures in
     let l = lawful (law.bounded x) (law.monotone x) (law.keeps x) in
     record {
       refusal = is_set_out ps es c.args.start calls places fits first e;
-      played = played ps es c.args.start calls places fits first e l _ _ _ _ c.standing-first.ensures c.make-calls-stopped.ensures.made c.make-calls-stopped.ensures.outcome c.end.ensures;
-      answers = written ps es c.args.start calls places fits first e l _ _ c.make-calls-stopped.ensures.answers;
+      played = played ps es c.args.start calls places fits first e l _ _ _ _ c.standing-first.ensures c.make_calls-stopped.ensures.made c.make_calls-stopped.ensures.outcome (cc);
+      answers = written ps es c.args.start calls places fits first e l _ _ c.make_calls-stopped.ensures.answers;
       promise = promise;
     }
