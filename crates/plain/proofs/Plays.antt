@@ -1,7 +1,7 @@
 -- On an accepted sheet the calls come to what the plain play says, and the house holds.
 use Rattle.std.proofs.Common.{◌≡◌, ℕ, zero, suc, ◌-◌, ◌<◌, Bool, true, false, cond, ◌&&◌, ltb, List, [], ◌∷◌, length, IfErr, Some, None, Ok, Option, Result, unwrap_or, sym, refl, ap, ◌∙◌, subst, inl, inr, arith}
 use Rattle.std.specs.Option.{option_map}
-use Rattle.std.specs.List.{AllByRecursion as All}
+use Rattle.std.specs.List.{AllByRecursion}
 use Rattle.std.proofs.lemmas.Bool.{cases_Bool, cond-true, cond-false, lt-ltb, ltb-true, eqb-true}
 use Rattle.game.specs.declared.side.Side.{Side}
 use Rattle.game.specs.declared.side.Side.TheVariants.{Green}
@@ -164,12 +164,12 @@ module _ (ps : List Position) (lawful : Lawful ps) (es : List Entry) (keeps : Ke
     | inr not-due ↦ subst (Fair ps es house start) (sym (cond-false _ _ _ not-due)) fair
   ]
 
-  never_33 : (calls : List Call) (run : List ℕ) → Fair ps es house start run → All Not33 (answers_of ps es house run calls)
+  never_33 : (calls : List Call) (run : List ℕ) → Fair ps es house start run → AllByRecursion Not33 (answers_of ps es house run calls)
   unfolding answers_of
   never_33 [] run fair = tt
   never_33 (call ∷ calls) run fair = elim (cases_Bool (comes (turn_at ps house (stands_at run)) call)) [
-    | inl due ↦ subst (All _) (sym (cond-true _ _ _ due)) (not_33 run fair call due, never_33 calls (after_call ps es run call) (fair_call run fair call due))
-    | inr not-due ↦ subst (All _) (sym (cond-false _ _ _ not-due)) tt
+    | inl due ↦ subst (AllByRecursion _) (sym (cond-true _ _ _ due)) (not_33 run fair call due, never_33 calls (after_call ps es run call) (fair_call run fair call due))
+    | inr not-due ↦ subst (AllByRecursion _) (sym (cond-false _ _ _ not-due)) tt
   ]
 
 module _ (ps : List Position) (lawful : Lawful ps) (es : List Entry) (accepted : checked ps es ≡ None) (start : ℕ) (h : start < length ps) where

@@ -1,6 +1,6 @@
 -- What is promised of plays.
 use Rattle.std.specs.Prelude.{◌≡◌, ℕ, ◌<◌, List, length, IfErr, None, Ok, ◌≢◌}
-use Rattle.std.specs.List.{AllByRecursion as All}
+use Rattle.std.specs.List.{AllByRecursion}
 use Rattle.game.specs.declared.sheet.Entry.{Entry}
 use Rattle.game.specs.Positions.{Position}
 use Rattle.game.specs.Winning.{Run, Follows, Good}
@@ -18,7 +18,7 @@ pub record AnswersPlainly (ps : List Position) (es : List Entry) (start : ℕ) (
 
 -- The house never loses: no call is refused 33; the positions entered are a run from the start that follows the sheet's choices for the house, and the run is good for the house, so that no position of the guest's kind is entered twice; and the house has not lost.
 pub record HouseNeverLoses (ps : List Position) (es : List Entry) (start : ℕ) (calls : List Call) : Type 0 where
-  pub never_33 : All (λ answer. IfErr answer (λ r. r.number ≢ 33)) (plain_answers ps es start calls)
+  pub never_33 : AllByRecursion (λ answer. IfErr answer (λ r. r.number ≢ 33)) (plain_answers ps es start calls)
   pub run : Run ps start (plain_run ps es start calls)
   pub follows : Follows ps (house_of es start) (λ u. (entry_of es u).choice) (plain_run ps es start calls)
   pub good : Good ps (house_of es start) (plain_run ps es start calls)
