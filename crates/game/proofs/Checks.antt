@@ -39,7 +39,10 @@ module _ (ps : List Position) (law : Lawful ps) (es : List Entry) (answer : Opti
   accepts = record { sound = λ n. accepted_keeps ps es (sym is ∙ n); complete = λ k. is ∙ keeps_accepted ps es k }
 
   pub wins : answer ≡ None → Settles ps es
-  wins n = settled ps law es (accepted_keeps ps es (sym is ∙ n))
+  wins n = settled ps law es (accepts.sound n)
 
   pub unique : answer ≡ None → UniqueColours ps es
-  unique n fs m = same_colours ps law es fs (accepted_keeps ps es (sym is ∙ n)) (accepted_keeps ps fs m)
+  unique n fs m = same_colours ps law es fs (accepts.sound n) (accepted_keeps ps fs m)
+
+  pub promised : record { first_broken : answer ≡ checked ps es; accepts_keeping : AcceptsKeeping ps es answer; colours_win : answer ≡ None → Settles ps es; colours_unique : answer ≡ None → UniqueColours ps es }
+  promised = record { first_broken = is; accepts_keeping = accepts; colours_win = wins; colours_unique = unique }

@@ -1,6 +1,7 @@
 -- Searches over the numbers below n: a loop's start, its step and its end, and what the answer says of each number.
 use Rattle.std.proofs.Common.{◌≡◌, ℕ, zero, suc, ◌+◌, ◌<◌, Bool, true, false, ◌&&◌, Some, None, Decides, Option, sym, refl, ap, ◌∙◌, inl, inr, add-one, arith}
-use Rattle.std.proofs.lemmas.Bool.{both_ways, cases_eq, and_cases, and_from, and_left, and_right}
+use Rattle.std.proofs.Math.Bool.{and_comm}
+use Rattle.std.proofs.lemmas.Bool.{cases_eq, and_cases, and_from, and_left, and_right}
 use Rattle.std.proofs.lemmas.Bool.Decides.{Decides-below_and}
 use Rattle.std.specs.Option.{option_or}
 use Rattle.game.specs.First.{unless, first_below, all_below}
@@ -13,15 +14,9 @@ pub all_more : (f : ℕ → Bool) (n : ℕ) → all_below f (n + 1) ≡ (all_bel
 unfolding all_below
 all_more f n = ap (all_below f) (add-one n)
 
-and_swap : (a b : Bool) → (a && b) ≡ (b && a)
-and_swap true true = refl
-and_swap true false = refl
-and_swap false true = refl
-and_swap false false = refl
-
 pub all_decides : (f : ℕ → Bool) (P : ℕ → Type 0) → ((k : ℕ) → Decides (f k) (P k)) → (n : ℕ) → Decides (all_below f n) ((k : ℕ) → k < n → P k)
 unfolding all_below
-all_decides f P each n = Decides-below_and f P (all_below f) each refl (λ m. and_swap (all_below f m) (f m)) n
+all_decides f P each n = Decides-below_and f P (all_below f) each refl (λ m. and_comm (all_below f m) (f m)) n
 
 -- a loop that stops at the first number that fails
 module _ (f : ℕ → Bool) where
@@ -41,7 +36,7 @@ module _ (f : ℕ → Bool) where
 
   pub all_not : (n : ℕ) → all_below f n ≡ false → (i : ℕ) × (i < n) × (f i ≡ false)
   unfolding all_below
-  all_not zero e = absurd (both_ways true e refl)
+  all_not zero e = absurd (cc)
   all_not (suc n) e = elim (and_cases (all_below f n) (f n) e) [
     | inl a ↦ let (i, l, h) = all_not n a in (i, omega arith, h)
     | inr b ↦ (n, omega arith, b)
@@ -50,11 +45,11 @@ module _ (f : ℕ → Bool) where
 -- where there is no answer the test holds, and there is no later answer
 pub unless_none : {F : Type 0} (b : Bool) (x : F) (o : Option F) → unless b x o ≡ None → (b ≡ true) × (o ≡ None)
 unless_none true x o e = (refl, e)
-unless_none false x o e = let z : ◌≡◌ {A = ℕ} 0 1 = cc in absurd (omega arith)
+unless_none false x o e = absurd (cc)
 
 none_both : {F : Type 0} (a b : Option F) → option_or a b ≡ None → (a ≡ None) × (b ≡ None)
 none_both None b e = (refl, e)
-none_both (Some x) b e = let z : ◌≡◌ {A = ℕ} 0 1 = cc in absurd (omega arith)
+none_both (Some x) b e = absurd (cc)
 
 module _ {F : Type 0} (f : ℕ → Option F) where
   pub first_none : first_below f 0 ≡ None

@@ -41,11 +41,11 @@ all_kept a b x y e =
     (p.0, q.0, r.0, (unless_none y 25 _ r.1).0)
 
 none_broken : (a b x y : Bool) → a ≡ true → b ≡ true → x ≡ true → y ≡ true → first_broken a b x y ≡ None
-none_broken a b x y p q r s = let e : first_broken a b x y ≡ first_broken true true true true = cc in e
+none_broken a b x y p q r s = cc
 
 unmapped : {X Y : Type 0} (f : X → Y) (o : Option X) → option_map f o ≡ None → o ≡ None
 unmapped f None e = refl
-unmapped f (Some x) e = let z : ◌≡◌ {A = ℕ} 0 1 = cc in absurd (omega arith)
+unmapped f (Some x) e = absurd (cc)
 
 module _ (ps : List Position) (es : List Entry) (v : ℕ) (c : Side) where
   choice_decides : Decides (choice_fits (same c (position ps v).owner) (entry_of es v).choice (degree ps v)) (ChoiceFits ps es v c)
@@ -104,7 +104,7 @@ module _ (ps : List Position) (es : List Entry) (v : ℕ) (c : Side) where
 
 module _ (ps : List Position) (es : List Entry) where
   kept_by : (v : ℕ) (o : Option Side) → side_of (entry_of es v).colour ≡ o → option_map (refused_at v) (broken_by ps es v o) ≡ None → (c : Side) × KeepsAt ps es v c
-  kept_by v None e n = let z : ◌≡◌ {A = ℕ} 0 1 = cc in absurd (omega arith)
+  kept_by v None e n = absurd (cc)
   kept_by v (Some c) e n = (c, kept_at ps es v c (side_number _ c e) (unmapped _ _ n))
 
   pub accepted_keeps : checked ps es ≡ None → KeepsRules ps es

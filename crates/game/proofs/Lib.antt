@@ -1,6 +1,7 @@
 pub mod Sides
 pub mod Answered
 pub mod Firsts
+pub mod Counting
 pub mod Entries
 pub mod Pigeonhole
 pub mod Paths

@@ -1,6 +1,5 @@
 -- Facts about the two sides.
 use Rattle.std.proofs.Common.{◌≡◌, ℕ, Bool, true, false, cond, ◌⊎◌, Some, Decides, sym, refl, ap, ◌∙◌, inl, inr, arith}
-use Rattle.std.proofs.lemmas.Bool.{both_ways}
 use Rattle.std.proofs.lemmas.Bool.Decides.{nat_tests}
 use denote.Enum.Bare.{sameb}
 use Rattle.game.specs.contracts.side.Side.{the_type}
@@ -15,8 +14,8 @@ cases_side Red Green = inr refl
 cases_side Red Red = inl refl
 
 pub apart : (c : Side) → c ≡ opposite c → ⊥
-apart Green e = let z : ◌≡◌ {A = ℕ} 0 1 = cc in omega arith
-apart Red e = let z : ◌≡◌ {A = ℕ} 0 1 = cc in omega arith
+apart Green e = cc
+apart Red e = cc
 
 pub number_same : (c d : Side) → number_of c ≡ number_of d → c ≡ d
 number_same Green Green e = refl
@@ -57,11 +56,11 @@ side_decides c d x y P Q p q = elim (cases_side c d) [
 ]
 
 pub same_true : (c d : Side) → same c d ≡ true → c ≡ d
-same_true c d e = elim (cases_side c d) [ inl h ↦ sym h | inr h ↦ absurd (both_ways _ (other_same c d h) e) ]
+same_true c d e = elim (cases_side c d) [ inl h ↦ sym h | inr h ↦ let o = other_same c d h in absurd (cc) ]
 
 -- a side that is not the one against k is k
 pub same_false : (k d : Side) → same (opposite k) d ≡ false → d ≡ k
 same_false Green Green e = refl
-same_false Green Red e = absurd (both_ways true e refl)
-same_false Red Green e = absurd (both_ways true e refl)
+same_false Green Red e = absurd (cc)
+same_false Red Green e = absurd (cc)
 same_false Red Red e = refl

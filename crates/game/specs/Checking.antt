@@ -1,6 +1,7 @@
 -- The check's value: the first rule that a sheet breaks, at the first position that breaks one.
-use Rattle.std.specs.Prelude.{◌≡◌, ℕ, Bool, cond, not, ◌||◌, List, length, Some, None, Option, ◌==◌, nat_le, nat_lt}
+use Rattle.std.specs.Prelude.{◌≡◌, ℕ, ◌+◌, Bool, cond, not, ◌||◌, List, length, Some, None, Option, ◌==◌, nat_le, nat_lt}
 use Rattle.std.specs.Option.{option_map}
+use Rattle.std.specs.declared.ops.Range.{Range}
 use Rattle.game.specs.declared.side.Side.{Side}
 use Rattle.game.specs.declared.sheet.Entry.{Entry}
 use Rattle.game.specs.Sides.{same, side_of}
@@ -17,6 +18,10 @@ choice_fits own choice n = cond own (nat_lt choice n) (choice == 0)
 -- A test of each move that counts: of the chosen one where the colour owns the position, else of all n.
 abbrev pub each_counting : Bool → ℕ → ℕ → (ℕ → Bool) → Bool
 each_counting own choice n f = cond own (f choice) (all_below f n)
+
+-- The moves that count.
+abbrev pub counting : Bool → ℕ → ℕ → Range ℕ
+counting own choice n = cond own (record { start = choice; end = choice + 1 }) (record { start = 0; end = n })
 
 -- Rule 23 as a test of move k: it leads to an entry of the same colour.
 abbrev pub keeps_colour : List Position → List Entry → ℕ → ℕ → Bool

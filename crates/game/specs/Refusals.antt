@@ -1,5 +1,5 @@
 -- What a refusal tells.
-use Rattle.std.specs.Prelude.{ℕ, List, [], ◌∷◌, Option, Result}
+use Rattle.std.specs.Prelude.{ℕ, List, [], ◌∷◌, ◌++◌, Option, Result, codes, decimal}
 use Rattle.std.specs.Option.{option_map}
 use Rattle.std.specs.Result.{result_err}
 use Rattle.game.specs.declared.refusal.Refusal.{Refusal}
@@ -26,6 +26,15 @@ tells (Choice v) = refused_at v 22
 tells (Move v) = refused_at v 23
 tells (Rank v) = refused_at v 24
 tells (Fall v) = refused_at v 25
+
+-- How the values of a refusal are printed: the first one as a position, if there is one.
+abbrev pub place_text : List ℕ → List ℕ
+place_text [] = []
+place_text (v ∷ rest) = codes " at position " ++ decimal v
+
+-- How a refusal is printed: its number, then its position if it has one.
+abbrev pub refusal_text : Refused → List ℕ
+refusal_text r = codes "refused " ++ (decimal r.number ++ place_text r.values)
 
 -- What a result tells, by what each error tells: nothing where it is no error.
 abbrev pub told : {T E : Type 0} → (E → Refused) → Result T E → Option Refused

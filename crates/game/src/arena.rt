@@ -1,7 +1,7 @@
 // The questions that every game answers.
 ghost use Rattle.std.specs.Prelude.{◌≡◌, List, length};
 ghost use Rattle.game.specs.Positions.{Position, owner_at, level_at, kind_at, degree_at, target_at};
-ghost use Rattle.game.specs.Laws.{Bounded, Monotone, KeepsKind};
+ghost use Rattle.game.specs.Laws.{Bounded, Monotone, KeepsKind, Lawful};
 
 use crate::side::Side;
 
@@ -42,4 +42,7 @@ pub trait Game {
     ghost monotone: { (x : Self) → Monotone (meaning x) };
 
     ghost keeps: { (x : Self) → KeepsKind (meaning x) };
+
+    // The three together.
+    ghost lawful: { (x : Self) → Lawful (meaning x) } = { λ x. record { bounded = bounded x; monotone = monotone x; keeps_kind = keeps x } };
 }

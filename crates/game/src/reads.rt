@@ -1,5 +1,7 @@
 // A game's answers where one is wanted at any number: past the end of the game they are those of a
 // blank position, Green's, of level 0 and kind Green, without moves; a move that is not there leads to 0.
+#![tactic(auto, using(crate::proofs::Answered::reads))]
+
 ghost use Rattle.std.specs.Prelude.{◌≡◌, ◌<◌, length};
 ghost use Rattle.game.specs.Positions.{position, degree, target};
 

@@ -1,9 +1,39 @@
 // Why the check refuses a sheet.
-ghost use Rattle.std.specs.Prelude.{◌≡◌};
+ghost use Rattle.std.specs.Prelude.{◌≡◌, Some};
 ghost use Rattle.std.specs.Option.{option_to_list};
-ghost use Rattle.game.specs.Refusals.{tells};
+ghost use Rattle.game.specs.Refusals.{Refused, refusal_text, tells};
 
+use std::error::Error;
 use std::fmt;
+
+// A refusal of a rule that has a number.
+pub trait Numbered {
+    // The number and the values that it tells.
+    ghost tells: { Self → Refused };
+
+    // The number of the broken rule.
+    fn number(&self) -> u8
+        ensures { result ≡ (tells self.now).number };
+}
+
+// What was handed over, given back with the reason.
+#[derive(Clone, Copy, Debug, Drop, PartialEq, Eq)]
+pub struct GivenBack<E, T> {
+    pub refusal: E,
+    pub given: T,
+}
+
+impl<E: fmt::Display, T> fmt::Display for GivenBack<E, T> {
+    ghost output = { λ x. E.output x.refusal };
+
+    ghost styled_output = { λ x spec. E.styled_output x.refusal spec };
+
+    fn fmt<W: fmt::Write>(&self, f: &mut fmt::Formatter<W>) -> fmt::Result {
+        self.refusal.fmt(f)
+    }
+}
+
+impl<E: Error, T: fmt::Debug + Drop> Error for GivenBack<E, T> {}
 
 // The first broken rule. Each case but the first names the first position whose entry breaks one.
 #[derive(Clone, Copy, PartialEq, Eq, Debug)]
@@ -22,11 +52,10 @@ pub enum Refusal {
     Fall(usize),
 }
 
-impl Refusal {
-    // The number of the broken rule.
-    pub fn number(&self) -> u8
-        ensures { result ≡ (tells self.now).number }
-    {
+impl Numbered for Refusal {
+    ghost tells = { tells };
+
+    fn number(&self) -> u8 {
         match self {
             Refusal::Length => 11,
             Refusal::Colour(_) => 21,
@@ -36,7 +65,9 @@ impl Refusal {
             Refusal::Fall(_) => 25,
         }
     }
+}
 
+impl Refusal {
     // The position whose entry breaks it.
     pub fn position(&self) -> Option<usize>
         ensures { option_to_list result ≡ (tells self.now).values }
@@ -53,6 +84,8 @@ impl Refusal {
 }
 
 impl fmt::Display for Refusal {
+    ghost output = { λ r. Some (refusal_text (tells r)) };
+
     fn fmt<W: fmt::Write>(&self, f: &mut fmt::Formatter<W>) -> fmt::Result {
         let number = self.number();
         match self.position() {
@@ -61,3 +94,5 @@ impl fmt::Display for Refusal {
         }
     }
 }
+
+impl Error for Refusal {}

@@ -1,19 +1,14 @@
 -- Functions of the numbers below n.
 use Rattle.std.proofs.Common.{◌≡◌, ℕ, zero, suc, ◌+◌, ◌<◌, ◌≤◌, max, Bool, true, false, cond, ◌||◌, ltb, ◌⊎◌, Decides, sym, refl, ap, ◌∙◌, subst, inl, inr, add-one, arith}
+use Rattle.std.proofs.Math.Bool.{or_comm}
 use Rattle.std.proofs.lemmas.Bool.{cases_Bool, cases_eq, cases_lt, both_ways, cond-true, cond-false, lt-ltb, le-ltb}
 use Rattle.std.proofs.lemmas.Bool.Decides.{Decides-below_or}
 use Rattle.game.specs.First.{all_below}
 use Rattle.rounds.specs.Below.{any_below, first_true, count_below, sum_below, max_below}
 
-or_swap : (a b : Bool) → (a || b) ≡ (b || a)
-or_swap true true = refl
-or_swap true false = refl
-or_swap false true = refl
-or_swap false false = refl
-
 pub any_decides : (f : ℕ → Bool) (P : ℕ → Type 0) → ((k : ℕ) → Decides (f k) (P k)) → (n : ℕ) → Decides (any_below f n) ((k : ℕ) × (k < n) × P k)
 unfolding any_below
-any_decides f P each n = Decides-below_or f P (any_below f) each refl (λ m. or_swap (any_below f m) (f m)) n
+any_decides f P each n = Decides-below_or f P (any_below f) each refl (λ m. or_comm (any_below f m) (f m)) n
 
 pub any_none : (f : ℕ → Bool) → any_below f 0 ≡ false
 unfolding any_below
