@@ -2,20 +2,21 @@
 use Rattle.std.proofs.Common.{◌≡◌, ℕ, ◌-◌, ◌<◌, List, map, length, get_or, Some, None, Option, sym, refl, ap, ◌∙◌, subst, arith}
 use Rattle.std.specs.Option.{option_map}
 use Rattle.std.specs.List.{slice_get}
+use Rattle.std.proofs.lemmas.Option.{slice_get-map}
 use Rattle.std.proofs.lemmas.List.{length-map, get_or-map}
 use Rattle.game.specs.declared.side.Side.{Side}
 use Rattle.game.specs.declared.side.Side.TheVariants.{Green, Red}
 use Rattle.game.specs.declared.sheet.Entry.{Entry}
 use Rattle.game.specs.Sides.{opposite, number_of}
-use Rattle.game.specs.Positions.{Position, blank, position, degree, Leads, target_at}
+use Rattle.game.specs.Positions.{Position, blank, position, degree, Leads, owner_at, level_at, kind_at, degree_at, target_at}
 use Rattle.game.specs.Laws.{Lawful}
 use Rattle.game.specs.Sheets.{blank_entry, entry_of, Coloured}
 use Rattle.game.specs.Rules.{KeepsAt, KeepsRules}
 use Rattle.game.proofs.Answered.{leads_from}
 use Rattle.game.proofs.Kept.{accepted_keeps}
 use Rattle.game.proofs.Settled.{same_colours}
-use Rattle.combine.specs.Exchange.{exchanged_position, exchanged, ColoursExchanged, AnswersExchanged}
-use Rattle.combine.proofs.ByPosition.{nth_map, get_or_nth, get_or_none}
+use Rattle.combine.specs.Exchange.{exchanged_position, exchanged, ColoursExchanged}
+use Rattle.combine.proofs.Targets.{target_in, target_read}
 
 opposite_twice : (c : Side) → opposite (opposite c) ≡ c
 opposite_twice Green = refl
@@ -143,38 +144,47 @@ module _ (ps : List Position) where
         let same = same_colours (exchanged ps) exchanged_lawful (exchanged_sheet es) fs (exchanged_keeps es keeps) (accepted_keeps (exchanged ps) fs b) v (omega arith) in
         sym same ∙ exchanged_coloured es keeps v h c s
 
--- a list of positions and the exchanged one, read at one place
-owner_answer : (o : Option Position) → option_map (λ x. x.owner) (option_map exchanged_position o) ≡ option_map opposite (option_map (λ x. x.owner) o)
-owner_answer None = refl
-owner_answer (Some x) = refl
+-- what the exchanged game answers, by what stands at the position
+module _ (ps : List Position) (u : ℕ) where
+  abbrev here : Option Position
+  here = slice_get ps u
 
-level_answer : (o : Option Position) → option_map (λ x. x.level) (option_map exchanged_position o) ≡ option_map (λ x. x.level) o
-level_answer None = refl
-level_answer (Some x) = refl
+  abbrev there : slice_get (exchanged ps) u ≡ option_map exchanged_position here
+  there = slice_get-map exchanged_position ps u
 
-kind_answer : (o : Option Position) → option_map (λ x. x.kind) (option_map exchanged_position o) ≡ option_map opposite (option_map (λ x. x.kind) o)
-kind_answer None = refl
-kind_answer (Some x) = refl
+  owner_read_at : (o : Option Position) → option_map (λ x. x.owner) (option_map exchanged_position o) ≡ option_map opposite (option_map (λ x. x.owner) o)
+  owner_read_at None = refl
+  owner_read_at (Some x) = refl
 
-degree_answer : (o : Option Position) → option_map (λ x. length x.moves) (option_map exchanged_position o) ≡ option_map (λ x. length x.moves) o
-degree_answer None = refl
-degree_answer (Some x) = refl
+  pub owner_exchanged : owner_at (exchanged ps) u ≡ option_map opposite (owner_at ps u)
+  owner_exchanged = ap (option_map (λ x. x.owner)) there ∙ owner_read_at here
 
-target_answer : (ps : List Position) (u k : ℕ) (o : Option Position) → slice_get ps u ≡ o → target_at (exchanged ps) u k ≡ target_at ps u k
-target_answer ps u k None e =
-    ap (λ (x : Position). slice_get x.moves k) (get_or_none (exchanged ps) u blank (nth_map exchanged_position ps u ∙ ap (option_map exchanged_position) e) ∙ sym (get_or_none ps u blank e))
-target_answer ps u k (Some x) e =
-    ap (λ (y : Position). slice_get y.moves k) (get_or_nth (exchanged ps) u blank (exchanged_position x) (nth_map exchanged_position ps u ∙ ap (option_map exchanged_position) e))
-    ∙ sym (ap (λ (y : Position). slice_get y.moves k) (get_or_nth ps u blank x e))
+  level_read_at : (o : Option Position) → option_map (λ x. x.level) (option_map exchanged_position o) ≡ option_map (λ x. x.level) o
+  level_read_at None = refl
+  level_read_at (Some x) = refl
 
-pub answers_exchanged : (ps : List Position) → AnswersExchanged ps
-answers_exchanged ps =
-    let read = nth_map exchanged_position ps in
-    record {
-      count = exchanged_length ps;
-      owner = λ u. ap (option_map (λ x. x.owner)) (read u) ∙ owner_answer (slice_get ps u);
-      level = λ u. ap (option_map (λ x. x.level)) (read u) ∙ level_answer (slice_get ps u);
-      kind = λ u. ap (option_map (λ x. x.kind)) (read u) ∙ kind_answer (slice_get ps u);
-      degree = λ u. ap (option_map (λ x. length x.moves)) (read u) ∙ degree_answer (slice_get ps u);
-      target = λ u k. target_answer ps u k (slice_get ps u) refl;
-    }
+  pub level_exchanged : level_at (exchanged ps) u ≡ level_at ps u
+  level_exchanged = ap (option_map (λ x. x.level)) there ∙ level_read_at here
+
+  kind_read_at : (o : Option Position) → option_map (λ x. x.kind) (option_map exchanged_position o) ≡ option_map opposite (option_map (λ x. x.kind) o)
+  kind_read_at None = refl
+  kind_read_at (Some x) = refl
+
+  pub kind_exchanged : kind_at (exchanged ps) u ≡ option_map opposite (kind_at ps u)
+  kind_exchanged = ap (option_map (λ x. x.kind)) there ∙ kind_read_at here
+
+  degree_read_at : (o : Option Position) → option_map (λ x. length x.moves) (option_map exchanged_position o) ≡ option_map (λ x. length x.moves) o
+  degree_read_at None = refl
+  degree_read_at (Some x) = refl
+
+  pub degree_exchanged : degree_at (exchanged ps) u ≡ degree_at ps u
+  degree_exchanged = ap (option_map (λ x. length x.moves)) there ∙ degree_read_at here
+
+  target_read_at : (k : ℕ) (o : Option Position) → target_in (option_map exchanged_position o) k ≡ target_in o k
+  target_read_at k None = refl
+  target_read_at k (Some x) = refl
+
+  pub target_exchanged : (k : ℕ) → target_at (exchanged ps) u k ≡ target_at ps u k
+  target_exchanged k = target_read (exchanged ps) u k ∙ ap (λ (o : Option Position). target_in o k) there ∙ target_read_at k here ∙ sym (target_read ps u k)
+
+pub ruleset exchanged_answers = (exchanged_length, owner_exchanged, level_exchanged, kind_exchanged, degree_exchanged, target_exchanged)

@@ -1,6 +1,5 @@
-pub mod ByPosition
+pub mod Targets
 pub mod Exchanges
 pub mod Parts
 pub mod Joins
 pub mod Pairings
-pub mod Bounds

@@ -2,16 +2,17 @@
 use Rattle.std.proofs.Common.{◌≡◌, ℕ, ◌+◌, ◌<◌, ◌≤◌, List, length, get_or, take, drop, Some, None, Option, sym, refl, ap, ◌∙◌, arith}
 use Rattle.std.specs.Option.{option_map}
 use Rattle.std.specs.List.{slice_get}
+use Rattle.std.proofs.lemmas.Option.{slice_get-map}
 use Rattle.std.proofs.lemmas.List.{length-map, length-take, length-drop, get_or-map, get_or-take, get_or-drop}
 use Rattle.game.specs.declared.side.Side.{Side}
 use Rattle.game.specs.declared.sheet.Entry.{Entry}
-use Rattle.game.specs.Positions.{Position, blank, position, degree, target, Leads, owner_at, level_at, kind_at, degree_at, target_at}
+use Rattle.game.specs.Positions.{Position, position, degree, target, Leads, owner_at, level_at, kind_at, degree_at, target_at}
 use Rattle.game.specs.Laws.{Lawful}
 use Rattle.game.specs.Sheets.{blank_entry, entry_of}
 use Rattle.game.specs.Rules.{KeepsAt, KeepsRules}
 use Rattle.game.proofs.Settled.{same_colours}
 use Rattle.combine.specs.Join.{shifted}
-use Rattle.combine.proofs.ByPosition.{nth_map, get_or_nth, get_or_none}
+use Rattle.combine.proofs.Targets.{target_in, target_read}
 
 -- the positions of ps are those of js from d on
 pub record Part (js ps : List Position) (d : ℕ) : Type 0 where
@@ -118,6 +119,10 @@ degree_shifted : (d : ℕ) (o : Option Position) → option_map (λ x. length x.
 degree_shifted d None = refl
 degree_shifted d (Some x) = ap Some (length-map x.moves (λ t. d + t))
 
+target_shifted : (d k : ℕ) (o : Option Position) → target_in (option_map (shifted d) o) k ≡ option_map (λ t. d + t) (target_in o k)
+target_shifted d k None = refl
+target_shifted d k (Some x) = slice_get-map (λ t. d + t) x.moves k
+
 -- position u of js is position v of ps, shifted
 module _ (js ps : List Position) (d u v : ℕ) (read : slice_get js u ≡ option_map (shifted d) (slice_get ps v)) where
   pub owner_answer : owner_at ps v ≡ owner_at js u
@@ -133,13 +138,6 @@ module _ (js ps : List Position) (d u v : ℕ) (read : slice_get js u ≡ option
   degree_answer = sym (ap (option_map (λ x. length x.moves)) read ∙ degree_shifted d (slice_get ps v))
 
   pub target_answer : (k : ℕ) → option_map (λ t. d + t) (target_at ps v k) ≡ target_at js u k
-  target_answer k = by (slice_get ps v) refl
-    where
-      by : (o : Option Position) → slice_get ps v ≡ o → option_map (λ t. d + t) (target_at ps v k) ≡ target_at js u k
-      by None e =
-          ap (λ (x : Position). option_map (λ t. d + t) (slice_get x.moves k)) (get_or_none ps v blank e)
-          ∙ sym (ap (λ (x : Position). slice_get x.moves k) (get_or_none js u blank (read ∙ ap (option_map (shifted d)) e)))
-      by (Some x) e =
-          ap (λ (y : Position). option_map (λ t. d + t) (slice_get y.moves k)) (get_or_nth ps v blank x e)
-          ∙ sym (nth_map (λ t. d + t) x.moves k)
-          ∙ sym (ap (λ (y : Position). slice_get y.moves k) (get_or_nth js u blank (shifted d x) (read ∙ ap (option_map (shifted d)) e)))
+  target_answer k =
+      ap (option_map (λ t. d + t)) (target_read ps v k)
+      ∙ sym (target_read js u k ∙ ap (λ (o : Option Position). target_in o k) read ∙ target_shifted d k (slice_get ps v))

@@ -1,5 +1,5 @@
 -- Two games under one head.
-use Rattle.std.specs.Prelude.{◌≡◌, ℕ, ◌+◌, ◌<◌, Bool, cond, ◌&&◌, ◌⊎◌, List, [], ◌∷◌, ◌++◌, map, length, None, Option, nat_le, nat_lt}
+use Rattle.std.specs.Prelude.{◌≡◌, ℕ, ◌+◌, ◌<◌, Bool, ◌&&◌, ◌⊎◌, List, [], ◌∷◌, ◌++◌, map, length, None, Option, nat_le, nat_lt}
 use Rattle.game.specs.declared.side.Side.{Side}
 use Rattle.game.specs.declared.side.Side.TheVariants.{Green}
 use Rattle.game.specs.declared.sheet.Entry.{Entry}
@@ -40,17 +40,3 @@ pub record ColoursAgree (owner : Side) (n p m q : ℕ) (es fs gs : List Entry) :
 -- The colours agree on all accepted sheets of the two games and of the joined one.
 abbrev pub ColoursJoined : Side → List Position → ℕ → List Position → ℕ → Type 0
 ColoursJoined owner xs p ys q = (es fs gs : List Entry) → checked xs es ≡ None → checked ys fs ≡ None → checked (joined owner xs p ys q) gs ≡ None → ColoursAgree owner (length xs) p (length ys) q es fs gs
-
--- The start p in a game of n positions, or 0 if it is not there.
-abbrev pub start_in : ℕ → ℕ → ℕ
-start_in n p = cond (nat_lt p n) p 0
-
--- A game from any two games and starts: the joined game where they fit, with 0 for a start that is not there; else the first alone. It is the joined game where nothing is refused.
-unfoldable pub paired : Side → List Position → ℕ → List Position → ℕ → List Position
-paired owner xs p ys q = cond (fits (length xs) (length ys)) (joined owner xs (start_in (length xs) p) ys (start_in (length ys) q)) xs
-
--- For the contract of a private function, no promise rests on it: answer is the refusal, if any, and with none the game is the joined one, and the colours agree.
-pub record Judged (owner : Side) (xs : List Position) (p : ℕ) (ys : List Position) (q : ℕ) (answer : Option Refused) : Type 0 where
-  pub refusal : answer ≡ join_refusal (length xs) p (length ys) q
-  pub meaning : answer ≡ None → paired owner xs p ys q ≡ joined owner xs p ys q
-  pub colours : answer ≡ None → ColoursJoined owner xs p ys q

@@ -1,2 +1,2 @@
-pub mod Targets
 pub mod Seating
+pub mod RowReads

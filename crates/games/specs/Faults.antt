@@ -1,22 +1,23 @@
 -- What lists without a fault keep.
-use Rattle.std.specs.Prelude.{◌≡◌, ℕ, ◌+◌, ◌<◌, ◌≤◌, true, ◌&&◌, List, length, Some, None, nat_le, slice_index}
-use Rattle.std.proofs.Common.{sym, ◌∙◌, arith}
-use Rattle.std.proofs.lemmas.Bool.{cond-true, and_parts, leb-true, ltb-true}
+use Rattle.std.specs.Prelude.{◌≡◌, ℕ, ◌+◌, ◌<◌, ◌≤◌, Bool, true, false, List, length, None, nat_le, slice_index}
+use Rattle.std.proofs.Common.{refl, sym, ◌∙◌, arith}
+use Rattle.std.specs.List.{list_all}
+use Rattle.std.proofs.lemmas.List.Folds.{list_all_at}
+use Rattle.std.proofs.lemmas.Bool.{and_parts, leb-true, ltb-true}
 use Rattle.std.proofs.lemmas.Bool.Decides.{nat_tests}
 use Rattle.game.specs.Laws.{most_positions, most_moves}
-use Rattle.game.specs.Refusals.{Refused, refused_at}
-use Rattle.game.specs.First.{first_below}
-use Rattle.game.proofs.Firsts.{first_found, first_clear, all_at, unless_none}
+use Rattle.game.specs.Refusals.{refused_at}
+use Rattle.game.proofs.Firsts.{first_clear, unless_none}
 use Rattle.games.specs.declared.row.Row.{Row}
 use Rattle.games.specs.Rows.{span_of, is_inside, keeps_law, is_lawful, row_of, row_refusal, rows_refusal}
 
-module _ (rs : List Row) (ts : List ℕ) where
-  -- the fault of row i is the first
-  pub fault_first : (i : ℕ) (x : Refused) → true ≡ (nat_le 1 (length rs) && nat_le (length rs) most_positions) → i < length rs → first_below (row_refusal rs ts) i ≡ None → Some x ≡ row_refusal rs ts i → Some x ≡ rows_refusal rs ts
-  fault_first i x sized h clear e =
-      sym (cond-true _ _ _ (sym sized)
-      ∙ first_found (row_refusal rs ts) i (length rs) x clear (sym e) h)
+all_at : (p : ℕ → Bool) (xs : List ℕ) → list_all p xs ≡ true → (k : ℕ) → k < length xs → p (slice_index xs k) ≡ true
+all_at p xs e k h = elim (p (slice_index xs k)) as (λ b. p (slice_index xs k) ≡ b → b ≡ true) [
+  | true ↦ λ _. refl
+  | false ↦ λ f. sym (list_all_at p xs k 0 h f) ∙ e
+] refl
 
+module _ (rs : List Row) (ts : List ℕ) where
   -- a row without a fault
   pub record Sound (r : Row) : Type 0 where
     pub span : r.first + r.count ≤ length ts
@@ -35,7 +36,6 @@ module _ (rs : List Row) (ts : List ℕ) where
   row_sound : (i : ℕ) → row_refusal rs ts i ≡ None → Sound (row_of rs i)
   row_sound i e =
       let r = row_of rs i in
-      let n = length (span_of ts r) in
       let (formed, later) = unless_none _ (refused_at i 15) _ e in
       let (lawful, _) = unless_none _ (refused_at i 16) None later in
       let (_, kind) = and_parts (nat_le r.owner 1) _ formed in
@@ -47,9 +47,9 @@ module _ (rs : List Row) (ts : List ℕ) where
         span = leb-true _ _ first;
         count = leb-true _ _ count;
         level = ltb-true _ _ level;
-        inside = λ k h. ltb-true _ _ (all_at (is_inside rs (span_of ts r)) n inside k h);
-        rises = λ k h. law_rises r (row_of rs (slice_index (span_of ts r) k)) (all_at (is_lawful rs r (span_of ts r)) n laws k h);
-        keeps = λ k h. law_keeps r (row_of rs (slice_index (span_of ts r) k)) (all_at (is_lawful rs r (span_of ts r)) n laws k h);
+        inside = λ k h. ltb-true _ _ (all_at (is_inside rs) (span_of ts r) inside k h);
+        rises = λ k h. law_rises r (row_of rs (slice_index (span_of ts r) k)) (all_at (is_lawful rs r) (span_of ts r) laws k h);
+        keeps = λ k h. law_keeps r (row_of rs (slice_index (span_of ts r) k)) (all_at (is_lawful rs r) (span_of ts r) laws k h);
       }
 
   pub record AllSound : Type 0 where

@@ -1,22 +1,13 @@
 -- The game that two lists make: what its positions are, and that lists without a fault make one with the bounds and both laws.
-use Rattle.std.specs.Prelude.{◌≡◌, ℕ, ◌+◌, ◌<◌, ◌≤◌, false, List, length, drop, is_some, IfSome, Some, None, Option, slice_index, slice_index_or, refl}
-use Rattle.std.proofs.Common.{inl, inr, sym, ◌∙◌, ap, subst, arith}
-use Rattle.std.specs.Option.{option_map}
-use Rattle.std.specs.List.{slice_get}
-use Rattle.std.proofs.lemmas.List.{length-map, length-take, length-drop, get_or-map}
-use Rattle.std.proofs.lemmas.Option.{slice_get_past}
-use Rattle.std.proofs.lemmas.Bool.{cases_lt}
-use Rattle.game.specs.Positions.{Position, blank, position, target_at, Leads}
+use Rattle.std.specs.Prelude.{◌≡◌, ℕ, ◌<◌, List, length, drop, None, slice_index, slice_index_or}
+use Rattle.std.proofs.Common.{sym, ◌∙◌, ap, subst, arith}
+use Rattle.std.proofs.lemmas.List.{length-map, length-take, get_or-map}
+use Rattle.game.specs.Positions.{Position, blank, position, Leads}
 use Rattle.game.specs.Laws.{Lawful}
 use Rattle.game.proofs.Answered.{leads_from}
-use Rattle.combine.proofs.ByPosition.{nth_map, get_or_nth, get_or_none}
 use Rattle.games.specs.declared.row.Row.{Row}
 use Rattle.games.specs.Rows.{side_in, span_of, position_of, meaning_of, blank_row, row_of, rows_refusal}
-use Rattle.games.specs.RowReads.{moves_in, ReadOff}
 use Rattle.games.specs.Faults.{AllSound, all_sound}
-
-within : {X : Type 0} (xs : List X) (k : ℕ) (x : X) → Some x ≡ slice_get xs k → k < length xs
-within xs k x e = elim (cases_lt k (length xs)) [ inl h ↦ h | inr h ↦ let n = slice_get_past xs k h in let z : ◌≡◌ {A = ℕ} 0 1 = cc in absurd (omega arith) ]
 
 pub meaning_length : (rs : List Row) (ts : List ℕ) → length (meaning_of rs ts) ≡ length rs
 meaning_length rs ts = length-map rs (position_of ts)
@@ -24,33 +15,9 @@ meaning_length rs ts = length-map rs (position_of ts)
 pub meaning_read : (rs : List Row) (ts : List ℕ) (u : ℕ) → u < length rs → position (meaning_of rs ts) u ≡ position_of ts (row_of rs u)
 meaning_read rs ts u h = get_or-map (position_of ts) rs u blank_row blank h
 
-unfound : {F : Type 0} (o : Option F) → is_some o ≡ false → o ≡ None
-unfound None e = refl
-unfound (Some x) e = let z : ◌≡◌ {A = ℕ} 0 1 = cc in absurd (omega arith)
-
-module _ (rs : List Row) (ts : List ℕ) (none : is_some (rows_refusal rs ts) ≡ false) where
+module _ (rs : List Row) (ts : List ℕ) (none : rows_refusal rs ts ≡ None) where
   sound : AllSound rs ts
-  sound = all_sound rs ts (unfound (rows_refusal rs ts) none)
-
-  -- how a position is read off its row, if there is one
-  module _ (p : ℕ) (o : Option Row) (here : o ≡ slice_get rs p) where
-    there : option_map (position_of ts) o ≡ slice_get (meaning_of rs ts) p
-    there = ap (option_map (position_of ts)) here ∙ sym (nth_map (position_of ts) rs p)
-
-  targets_read : (p : ℕ) (o : Option Row) → o ≡ slice_get rs p → (k : ℕ) → slice_get (moves_in ts o) k ≡ target_at (meaning_of rs ts) p k
-  targets_read p None e k = ap (λ (q : Position). slice_get q.moves k) (sym (get_or_none (meaning_of rs ts) p blank (sym (there p None e))))
-  targets_read p (Some r) e k = ap (λ (q : Position). slice_get q.moves k) (sym (get_or_nth (meaning_of rs ts) p blank (position_of ts r) (sym (there p (Some r) e))))
-
-  count_read : (p : ℕ) (o : Option Row) → o ≡ slice_get rs p → IfSome o (λ r. r.count ≡ length (span_of ts r))
-  count_read p None e = tt
-  count_read p (Some r) e =
-      let h = (sound.rows p (within rs p r e)).span in
-      let s : row_of rs p ≡ r = get_or_nth rs p blank_row r (sym e) in
-      let w : r.first + r.count ≤ length ts = subst (λ (x : Row). x.first + x.count ≤ length ts) s h in
-      simp (length-take, length-drop) (omega arith)
-
-  pub read_off : (p : ℕ) (o : Option Row) → o ≡ slice_get rs p → ReadOff rs ts p o
-  read_off p o e = record { position = there p o e; targets = targets_read p o e; count = count_read p o e }
+  sound = all_sound rs ts none
 
   -- a move of the game is a target of a row
   record Move (u k w : ℕ) : Type 0 where

@@ -1,11 +1,16 @@
 // Rows, from which a row game is read, and why lists make none.
-ghost use Rattle.std.specs.Prelude.{◌≡◌};
+ghost use Rattle.std.specs.Prelude.{◌≡◌, Some};
 ghost use Rattle.std.specs.Option.{option_to_list};
-ghost use Rattle.games.specs.Rows.{tells};
+ghost use Rattle.games.specs.Rows.{tells, fault_text};
+
+use game::refusal::{GivenBack, Numbered};
+use std::error::Error;
+use std::fmt;
 
 // A position as five numbers: owner and kind are sides (Green 0, Red 1), and the moves are the
 // `count` targets from place `first` on in a list that all rows share.
-#[derive(Clone, Copy, PartialEq, Eq, Debug)]
+// Numbers and an index, since it is the format of what is handed in: a number that is no side's is refused.
+#[derive(Clone, Copy, PartialEq, Eq, Debug, Default)]
 pub struct Row {
     pub owner: u16,
     pub level: u16,
@@ -25,18 +30,22 @@ pub enum RowsFault {
     Unlawful(usize),
 }
 
-impl RowsFault {
-    // The number of the fault.
-    pub fn number(&self) -> u8
-        ensures { result ≡ (tells self.now).number }
-    {
+// The two lists as they were handed over, and why they make no game.
+pub type RowsRefused = GivenBack<RowsFault, (Vec<Row>, Vec<u16>)>;
+
+impl Numbered for RowsFault {
+    ghost tells = { tells };
+
+    fn number(&self) -> u8 {
         match self {
             RowsFault::Count => 14,
             RowsFault::Malformed(_) => 15,
             RowsFault::Unlawful(_) => 16,
         }
     }
+}
 
+impl RowsFault {
     // The row at fault.
     pub fn row(&self) -> Option<usize>
         ensures { option_to_list result ≡ (tells self.now).values }
@@ -47,3 +56,17 @@ impl RowsFault {
         }
     }
 }
+
+impl fmt::Display for RowsFault {
+    ghost output = { λ fault. Some (fault_text fault) };
+
+    fn fmt<W: fmt::Write>(&self, f: &mut fmt::Formatter<W>) -> fmt::Result {
+        let number = self.number();
+        match self.row() {
+            Some(i) => write!(f, "refused {number} at row {i}"),
+            None => write!(f, "refused {number}"),
+        }
+    }
+}
+
+impl Error for RowsFault {}

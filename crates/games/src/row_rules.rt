@@ -1,27 +1,27 @@
 // The rules of the two lists that make a row game.
-ghost use Rattle.std.specs.Prelude.{◌≡◌, ◌<◌, true, ◌&&◌, length, nat_le, nat_lt};
-ghost use Rattle.std.specs.List.{slice_get};
+ghost use Rattle.std.specs.Prelude.{◌≡◌, ◌&&◌, nat_le};
+ghost use Rattle.std.specs.List.{slice_get, list_all};
 ghost use Rattle.game.specs.Laws.{most_positions};
-ghost use Rattle.game.specs.First.{all_below};
 ghost use Rattle.game.specs.Refusals.{told};
-ghost use Rattle.games.specs.Rows.{side_in, span_of, span_fits, is_inside, keeps_law, is_lawful, row_refusal, rows_refusal, tells};
+ghost use Rattle.games.specs.Rows.{side_in, span_of, row_of, span_fits, is_inside, keeps_law, is_lawful, row_refusal, rows_refusal, tells};
 
 use crate::row::{Row, RowsFault};
 use game::arena::MOST_POSITIONS;
 use game::side::Side;
 
-// The side that a row of a game writes as `n`.
+// The side that a row of a game writes as `n`. Not `Side::try_from`, which takes a byte and may refuse: the rows
+// of a game hold 0 or 1.
 pub(crate) fn side_in(n: u16) -> Side
     ensures { result ≡ side_in n }
 {
     if n == 0 { Side::Green } else { Side::Red }
 }
 
-// Row `p`, if it is there.
-pub(crate) fn row_at(rows: &[Row], p: usize) -> Option<Row>
-    ensures { result ≡ slice_get rows.now p }
+// Row `i`, or a blank one past the end.
+fn row_of(rows: &[Row], i: usize) -> Row
+    ensures { result ≡ row_of rows.now i }
 {
-    if p < rows.len() { Some(rows[p]) } else { None }
+    rows.get(i).copied().unwrap_or_default()
 }
 
 // The target of move `k` of a row.
@@ -31,11 +31,7 @@ pub(crate) fn target_at(targets: &[u16], row: Row, k: usize) -> Option<usize>
     if k >= row.count as usize {
         return None;
     }
-    let i = row.first as usize + k;
-    if i >= targets.len() {
-        return None;
-    }
-    Some(targets[i] as usize)
+    targets.get(row.first as usize + k).map(|t| *t as usize)
 }
 
 // Whether the span of a row lies in the list of targets.
@@ -45,23 +41,11 @@ fn span_fits(targets: &[u16], row: Row) -> bool
     row.first as usize + row.count as usize <= targets.len()
 }
 
-// Whether a target is the number of a row.
-fn is_row(rows: &[Row], target: u16) -> bool
-    ensures { result ≡ nat_lt target (length rows.now) }
-{
-    (target as usize) < rows.len()
-}
-
-// Whether all targets of a span are.
+// Whether all targets of a span are rows.
 fn targets_inside(rows: &[Row], span: &[u16]) -> bool
-    ensures { result ≡ all_below (is_inside rows.now span.now) (length span.now) }
+    ensures { result ≡ list_all (is_inside rows.now) span.now }
 {
-    for t in span {
-        if !is_row(rows, *t) {
-            return false;
-        }
-    }
-    true
+    span.iter().all(|t| (*t as usize) < rows.len())
 }
 
 // Whether a move from one row to another keeps both laws.
@@ -71,17 +55,12 @@ fn keeps_law(from: Row, to: Row) -> bool
     from.level < to.level || from.level == to.level && from.kind == to.kind
 }
 
-// Whether all moves of a row do.
+// Whether the moves of a row to all targets of a span do.
 fn moves_lawful(rows: &[Row], row: Row, span: &[u16]) -> bool
-    requires { all_below (is_inside rows.now span.now) (length span.now) ≡ true }
-    ensures { result ≡ all_below (is_lawful rows.now row span.now) (length span.now) }
+    ensures { result ≡ list_all (is_lawful rows.now row) span.now }
 {
-    for t in span {
-        if !keeps_law(row, rows[*t as usize]) {
-            return false;
-        }
-    }
-    true
+    span.iter()
+        .all(|t| keeps_law(row, row_of(rows, *t as usize)))
 }
 
 // Whether a game may have so many positions.
@@ -92,11 +71,10 @@ fn is_count(count: usize) -> bool
 }
 
 // The fault of row `i`.
-fn row_fault(rows: &[Row], targets: &[u16], i: usize) -> Result<(), RowsFault>
-    requires { i < length rows.now }
+fn row_fault(rows: &[Row], targets: &[u16], i: usize, row: Row) -> Result<(), RowsFault>
+    requires { row ≡ row_of rows.now i }
     ensures { told tells result ≡ row_refusal rows.now targets.now i }
 {
-    let row = rows[i];
     if row.owner > 1 || row.kind > 1 || !span_fits(targets, row) {
         return Err(RowsFault::Malformed(i));
     }
@@ -113,14 +91,15 @@ fn row_fault(rows: &[Row], targets: &[u16], i: usize) -> Result<(), RowsFault>
 }
 
 // Why the lists make no game, if they make none.
+#[tactic(auto, using(game::proofs::Firsts::first_none, game::proofs::Firsts::first_more, game::proofs::Firsts::first_found))]
 pub(crate) fn rows_fault(rows: &[Row], targets: &[u16]) -> Result<(), RowsFault>
     ensures { told tells result ≡ rows_refusal rows.now targets.now }
 {
     if !is_count(rows.len()) {
         return Err(RowsFault::Count);
     }
-    for i in 0..rows.len() {
-        row_fault(rows, targets, i)?;
+    for (i, row) in rows.iter().enumerate() {
+        row_fault(rows, targets, i, *row)?;
     }
     Ok(())
 }

@@ -3,8 +3,6 @@
 // A position of a pair, by the part that it belongs to.
 #[derive(Clone, Copy)]
 pub(crate) enum Seat {
-    // Position of the first game, where the two do not fit under one head.
-    Alone,
     // The head.
     Head,
     // This position of the first game.
