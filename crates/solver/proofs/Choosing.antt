@@ -22,17 +22,18 @@ number_same Red Red = refl
 
 module _ (ps : List Position) (lawful : Lawful ps) (es : List Entry) (done : DoneFrom ps 0 es) where
   final_colour : (v : ℕ) → v < length ps → (entry_of es v).colour ≡ number_of (colour_of ps v)
-  final_colour v h = (done v h (omega arith)).colour ∙ ap number_of (sym (colour_is ps lawful v h))
+  final_colour v h = (done.marked v h (omega arith)).colour ∙ ap number_of (sym (colour_is ps lawful v h))
 
   pub done_readable : (l n : ℕ) → n ≤ length ps → Readable ps l n es
   done_readable l n m = record {
+    sized = done.sized;
     above = λ w h up. final_colour w h;
-    level = λ w h e. rank_says ps (colour_of ps) (length ps) n w m ∙ ap (λ (r : ℕ). leb 1 r && leb r n) (sym (done w h (omega arith)).rank);
+    level = λ w h e. rank_says ps (colour_of ps) (length ps) n w m ∙ ap (λ (r : ℕ). leb 1 r && leb r n) (sym (done.marked w h (omega arith)).rank);
   }
 
   module _ (v : ℕ) (h : v < length ps) where
     rank_is : (entry_of es v).rank ≡ rank_of ps v
-    rank_is = (done v h (omega arith)).rank
+    rank_is = (done.marked v h (omega arith)).rank
 
     pub rank_most : (entry_of es v).rank ≤ length ps
     rank_most = let e = rank_is in elim (cases_Bool (taken ps (length ps) v)) [

@@ -15,8 +15,8 @@ entry_same e f a b c =
     let whole : ◌≡◌ {A = Entry} (record { colour = e.colour; choice = e.choice; rank = e.rank }) (record { colour = f.colour; choice = f.choice; rank = f.rank }) = cc in
     whole
 
-pub filled_all : (ps : List Position) → Lawful ps → (es : List Entry) (i : ℕ) → length es ≡ length ps → length ps ≤ i → Filled ps i es → es ≡ colouring ps
-filled_all ps lawful es i size h f =
-    fill_by_all (entry_for ps) es (length ps) blank_entry size (λ v b.
-    let m = f.marked v b (omega arith) in
+pub filled_all : (ps : List Position) → Lawful ps → (es : List Entry) (i : ℕ) → length ps ≤ i → Filled ps i es → es ≡ colouring ps
+filled_all ps lawful es i h f =
+    fill_by_all (entry_for ps) es (length ps) blank_entry f.done.sized (λ v b.
+    let m = f.done.marked v b (omega arith) in
     entry_same (entry_of es v) (entry_for ps v) (m.colour ∙ ap number_of (sym (colour_is ps lawful v b))) (f.chosen v (omega arith) b) m.rank)

@@ -1,6 +1,6 @@
 -- How the sheet is filled in, entry by entry.
 use Rattle.std.proofs.Common.{◌≡◌, ℕ, suc, ◌<◌, ◌≤◌, Bool, true, false, cond, not, ◌&&◌, ◌||◌, eqb, leb, ◌≢◌, ◌⊎◌, List, length, set, sym, refl, ap, ◌∙◌, subst, inl, inr, arith}
-use Rattle.std.proofs.lemmas.List.{get_or-set_same, get_or-set_other}
+use Rattle.std.proofs.lemmas.List.{get_or-set_same, get_or-set_other, length-set}
 use Rattle.std.proofs.lemmas.Bool.{cases_Bool, cases_eq, cases_lt, cond-true, cond-false, eq-eqb, ne_eqb, and_left, and_right, not_from_true}
 use Rattle.game.specs.declared.side.Side.{Side}
 use Rattle.game.specs.declared.sheet.Entry.{Entry}
@@ -21,6 +21,13 @@ entry_other es v w x ne = get_or-set_other es v w x blank_entry ne
 module _ (ps : List Position) where
   marked_other : (n : ℕ) (es : List Entry) (v w : ℕ) (x : Entry) → w ≢ v → Marked ps n es w → Marked ps n (set es v x) w
   marked_other n es v w x ne m = let e = entry_other es v w x ne in record { colour = ap (λ (y : Entry). y.colour) e ∙ m.colour; rank = ap (λ (y : Entry). y.rank) e ∙ m.rank }
+
+  -- an entry below the levels that are done
+  done_other : (l i : ℕ) (es : List Entry) (x : Entry) → (position ps i).level < l → DoneFrom ps l es → DoneFrom ps l (set es i x)
+  done_other l i es x h d = record {
+    sized = length-set es i x ∙ d.sized;
+    marked = λ w b up. let ne : w ≢ i = λ e. let s = ap (λ (y : ℕ). (position ps y).level) e in omega arith in marked_other (length ps) es i w x ne (d.marked w b up);
+  }
 
   -- a mark as written
   marked_here : (n : ℕ) (es : List Entry) (v : ℕ) (x : Entry) → v < length es → x.colour ≡ number_of (cond (taken ps n v) (taker ps v) (position ps v).kind) → x.rank ≡ rank_up_to ps (colour_of ps) n v → Marked ps n (set es v x) v
@@ -43,7 +50,8 @@ and_true false = refl
 module _ (ps : List Position) (lawful : Lawful ps) (l n i : ℕ) (es : List Entry) (stage : Stage ps l n i es) where
   pub stage_readable : Readable ps l n es
   stage_readable = record {
-    above = λ w h up. (stage.above w h up).colour ∙ ap number_of (sym (colour_is ps lawful w h));
+    sized = stage.above.sized;
+    above = λ w h up. (stage.above.marked w h up).colour ∙ ap number_of (sym (colour_is ps lawful w h));
     level = λ w h e. elim (cases_lt w i) [
       | inl b ↦ rank_says ps (colour_of ps) (suc n) n w (omega arith) ∙ ap (λ (r : ℕ). leb 1 r && leb r n) (sym (stage.passed w b h e).rank)
       | inr b ↦ rank_says ps (colour_of ps) n n w (omega arith) ∙ ap (λ (r : ℕ). leb 1 r && leb r n) (sym (stage.rest w b h e).rank)
@@ -73,12 +81,13 @@ module _ (ps : List Position) (lawful : Lawful ps) (l n i : ℕ) (es : List Entr
           sym (ap (λ x. x && (taken ps (suc n) i && not (taken ps n i))) (eq-eqb _ _ e) ∙ ap (λ x. taken ps (suc n) i && not x) t ∙ ap (λ x. x && true) by ∙ ap (λ x. x && true) (sym f) ∙ and_true b)
 
     -- the round takes position i
-    pub stage_taken : length es ≡ length ps → takes_at ps l n i ≡ true → Stage ps l n (suc i) (set es i (record { colour = number_of (taker ps i); choice = 0; rank = suc n }))
-    stage_taken size t =
+    pub stage_taken : takes_at ps l n i ≡ true → Stage ps l n (suc i) (set es i (record { colour = number_of (taker ps i); choice = 0; rank = suc n }))
+    stage_taken t =
+        let size = stage.above.sized in
         let (at, by, before) = taking ps lawful (colour_of ps) l n i t in
         let x : Entry = record { colour = number_of (taker ps i); choice = 0; rank = suc n } in
         record {
-          above = λ w b up. let ne : w ≢ i = λ e. let s = ap (λ (y : ℕ). (position ps y).level) e in omega arith in marked_other ps (length ps) es i w x ne (stage.above w b up);
+          above = done_other ps (suc l) i es x (omega arith) stage.above;
           passed = λ w b c e. elim (cases_eq w i) [
             | inl s ↦ subst (λ (y : ℕ). Marked ps (suc n) (set es i x) y) (sym s) (marked_here ps (suc n) es i x (omega arith) (ap number_of (sym (cond-true _ _ _ by))) (sym (rank_new ps (colour_of ps) n i before by)))
             | inr s ↦ marked_other ps (suc n) es i w x s (stage.passed w (omega arith) c e)
@@ -97,14 +106,6 @@ module _ (ps : List Position) (lawful : Lawful ps) (l n i : ℕ) (es : List Entr
       rest = λ w b c e. stage.rest w (omega arith) c e;
     }
 
--- the end of a round is the start of the next
-pub stage_next : (ps : List Position) (l n i : ℕ) (es : List Entry) → length ps ≤ i → Stage ps l n i es → Stage ps l (suc n) 0 es
-stage_next ps l n i es h stage = record {
-  above = stage.above;
-  passed = λ w b c e. absurd (omega arith);
-  rest = λ w b c e. stage.passed w (omega arith) c e;
-}
-
 -- two marks of the same side and rank
 pub mark_same : (a b : Side) (m n : ℕ) → a ≡ b → m ≡ n → ◌≡◌ {A = Entry} (record { colour = number_of a; choice = 0; rank = m }) (record { colour = number_of b; choice = 0; rank = n })
 mark_same a b m n e f = cc
@@ -116,11 +117,12 @@ module _ (ps : List Position) where
   unmarked es v h = marked_here ps 0 es v (record { colour = number_of (position ps v).kind; choice = 0; rank = 0 }) h (ap number_of (sym (cond-false _ _ _ (taken_none ps (colour_of ps) v)))) refl
 
   module _ (l i : ℕ) (es : List Entry) (c : Cleared ps l i es) where
-    pub cleared_here : length es ≡ length ps → i < length ps → (position ps i).level ≡ l → Cleared ps l (suc i) (set es i (record { colour = number_of (position ps i).kind; choice = 0; rank = 0 }))
-    cleared_here size h at =
+    pub cleared_here : i < length ps → (position ps i).level ≡ l → Cleared ps l (suc i) (set es i (record { colour = number_of (position ps i).kind; choice = 0; rank = 0 }))
+    cleared_here h at =
+        let size = c.above.sized in
         let x : Entry = record { colour = number_of (position ps i).kind; choice = 0; rank = 0 } in
         record {
-          above = λ w b up. let ne : w ≢ i = λ e. let s = ap (λ (y : ℕ). (position ps y).level) e in omega arith in marked_other ps (length ps) es i w x ne (c.above w b up);
+          above = done_other ps (suc l) i es x (omega arith) c.above;
           passed = λ w b d e. elim (cases_eq w i) [
             | inl s ↦ subst (λ (y : ℕ). Marked ps 0 (set es i x) y) (sym s) (unmarked es i (omega arith))
             | inr s ↦ marked_other ps 0 es i w x s (c.passed w (omega arith) d e)
@@ -133,19 +135,15 @@ module _ (ps : List Position) where
       passed = λ w b d e. c.passed w (elim (cases_eq w i) [ inl s ↦ absurd (ne (ap (λ (y : ℕ). (position ps y).level) (sym s) ∙ e)) | inr s ↦ omega arith ]) d e;
     }
 
-    pub cleared_all : length ps ≤ i → Stage ps l 0 0 es
-    cleared_all h = record {
-      above = c.above;
-      passed = λ w b d e. absurd (omega arith);
-      rest = λ w b d e. c.passed w (omega arith) d e;
-    }
-
   -- a level is done once nothing is taken after round n
   pub level_done : (l n : ℕ) (es : List Entry) → n ≤ length ps → Agree ps l (taken_by ps (colour_of ps) (length ps)) (taken_by ps (colour_of ps) n) → Stage ps l n 0 es → DoneFrom ps l es
-  level_done l n es h agree stage v b up = elim (cases_eq (position ps v).level l) [
-    | inl e ↦
-        let m = stage.rest v (omega arith) b e in
-        let t = agree.at v b e in
-        record { colour = m.colour ∙ ap (λ x. number_of (cond x (taker ps v) (position ps v).kind)) (sym t); rank = m.rank ∙ sym (rank_later ps (colour_of ps) n (length ps) v h t) }
-    | inr e ↦ stage.above v b (omega arith)
-  ]
+  level_done l n es h agree stage = record {
+    sized = stage.above.sized;
+    marked = λ v b up. elim (cases_eq (position ps v).level l) [
+      | inl e ↦
+          let m = stage.rest v (omega arith) b e in
+          let t = agree.at v b e in
+          record { colour = m.colour ∙ ap (λ x. number_of (cond x (taker ps v) (position ps v).kind)) (sym t); rank = m.rank ∙ sym (rank_later ps (colour_of ps) n (length ps) v h t) }
+      | inr e ↦ stage.above.marked v b (omega arith)
+    ];
+  }

@@ -7,7 +7,7 @@ ghost use Rattle.rounds.specs.Ruled.{RuledByRounds};
 ghost use Rattle.solver.specs.Stages.{DoneFrom};
 
 use crate::level::colour_level;
-use crate::moves::choice_at;
+use crate::moves::Settled;
 use game::arena::Game;
 use game::check::is_sized;
 use game::refusal::Refusal;
@@ -30,6 +30,7 @@ fn colour_levels<G: Game>(game: &G, sheet: &mut [Entry]) -> usize
 {
     let count = sheet.len();
     let mut rounds = 0;
+    // Counted up: over `(0..count).rev()` the colouring took half as long again.
     for done in 0..count {
         rounds += colour_level(game, sheet, level_after(count, done));
     }
@@ -38,14 +39,15 @@ fn colour_levels<G: Game>(game: &G, sheet: &mut [Entry]) -> usize
 
 // Fills in the choices, colours and ranks being final.
 fn choose<G: Game>(game: &G, sheet: &mut [Entry])
-    requires sized { length sheet.old ≡ length (G.Game.meaning game.now) }
-    requires done { DoneFrom (G.Game.meaning game.now) 0 sheet.old }
+    requires { DoneFrom (G.Game.meaning game.now) 0 sheet.old }
     ensures sheet { sheet.new ≡ colouring (G.Game.meaning game.now) }
     ensures accepted { checked (G.Game.meaning game.now) sheet.new ≡ None }
     ensures ruled { RuledByRounds (G.Game.meaning game.now) sheet.new }
 {
+    // By index: each choice reads the whole sheet.
     for v in 0..sheet.len() {
-        let choice = choice_at(game, sheet, v);
+        let settled = Settled { game, sheet, v };
+        let choice = settled.choice();
         sheet[v].choice = choice;
     }
 }

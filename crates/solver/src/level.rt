@@ -5,7 +5,7 @@ ghost use Rattle.game.specs.Positions.{position};
 ghost use Rattle.rounds.specs.Rounds.{takes_at, adds, rounds_at};
 ghost use Rattle.solver.specs.Stages.{DoneFrom, Stage, Cleared};
 
-use crate::moves::is_forced;
+use crate::moves::Waiting;
 use game::arena::Game;
 use game::reads::{kind_of, level_of};
 use game::sheet::Entry;
@@ -16,15 +16,18 @@ fn mark(side: Side, rank: u16) -> Entry
     ensures { result ≡ record { colour = number_of side; choice = 0; rank = rank } }
 {
     Entry {
-        colour: side.number(),
+        colour: u8::from(side),
         choice: 0,
         rank,
     }
 }
 
+// The functions below that write take game, sheet, level and round as parameters. A struct that holds the `&mut`
+// sheet was tried: each contract and loop had to repeat that it still holds the same game and slice. With game,
+// level and `n` alone in a struct the colouring took half as long again.
+
 // Whether round `n` + 1 takes `v`.
 fn is_taken_now<G: Game>(game: &G, sheet: &[Entry], level: usize, n: usize, v: usize) -> bool
-    requires sized { length sheet.now ≡ length (G.Game.meaning game.now) }
     requires within { v < length sheet.now }
     requires stage { Stage (G.Game.meaning game.now) level n v sheet.now }
     ensures { result ≡ takes_at (G.Game.meaning game.now) level n v }
@@ -35,12 +38,19 @@ fn is_taken_now<G: Game>(game: &G, sheet: &[Entry], level: usize, n: usize, v: u
     if sheet[v].rank != 0 {
         return false;
     }
-    is_forced(game, sheet, v, n)
+    let waiting = Waiting {
+        game,
+        sheet,
+        v,
+        n,
+        level,
+        taker: kind_of(game, v).other(),
+    };
+    waiting.is_forced()
 }
 
-// Round `n` + 1 at `v`: takes it, if it is to be taken now.
+// Round `n` + 1 at `v`: takes it, if it is to be taken now; whether it was.
 fn advance<G: Game>(game: &G, sheet: &mut [Entry], level: usize, n: usize, v: usize) -> bool
-    requires sized { length sheet.old ≡ length (G.Game.meaning game.now) }
     requires within { v < length sheet.old }
     requires few { n < length sheet.old }
     requires stage { Stage (G.Game.meaning game.now) level n v sheet.old }
@@ -56,13 +66,13 @@ fn advance<G: Game>(game: &G, sheet: &mut [Entry], level: usize, n: usize, v: us
 
 // Round `n` + 1 of a level; whether it added something.
 fn round<G: Game>(game: &G, sheet: &mut [Entry], level: usize, n: usize) -> bool
-    requires sized { length sheet.old ≡ length (G.Game.meaning game.now) }
     requires few { n < length sheet.old }
     requires stage { Stage (G.Game.meaning game.now) level n 0 sheet.old }
     ensures stage { Stage (G.Game.meaning game.now) level (suc n) 0 sheet.new }
     ensures added { result ≡ adds (G.Game.meaning game.now) level n }
 {
     let mut added = false;
+    // By index: each step reads the whole sheet.
     for v in 0..sheet.len() {
         added |= advance(game, sheet, level, n, v);
     }
@@ -71,25 +81,24 @@ fn round<G: Game>(game: &G, sheet: &mut [Entry], level: usize, n: usize) -> bool
 
 // Clears the entries of a level: nothing is taken yet.
 fn clear<G: Game>(game: &G, sheet: &mut [Entry], level: usize)
-    requires sized { length sheet.old ≡ length (G.Game.meaning game.now) }
-    requires above { DoneFrom (G.Game.meaning game.now) (suc level) sheet.old }
+    requires { DoneFrom (G.Game.meaning game.now) (suc level) sheet.old }
     ensures { Stage (G.Game.meaning game.now) level 0 0 sheet.new }
 {
-    for v in 0..sheet.len() {
+    for (v, entry) in sheet.iter_mut().enumerate() {
         if level_of(game, v) == level {
-            sheet[v] = mark(kind_of(game, v), 0);
+            *entry = mark(kind_of(game, v), 0);
         }
     }
 }
 
 // Colours a level, the levels above being done; how many rounds added something.
 pub(crate) fn colour_level<G: Game>(game: &G, sheet: &mut [Entry], level: usize) -> usize
-    requires sized { length sheet.old ≡ length (G.Game.meaning game.now) }
-    requires above { DoneFrom (G.Game.meaning game.now) (suc level) sheet.old }
+    requires { DoneFrom (G.Game.meaning game.now) (suc level) sheet.old }
     ensures done { DoneFrom (G.Game.meaning game.now) level sheet.new }
     ensures rounds { result ≡ rounds_at (G.Game.meaning game.now) level }
 {
     clear(game, sheet, level);
+    // No `find`: its closure would change the sheet that the loop is about.
     for n in 0..sheet.len() {
         if !round(game, sheet, level, n) {
             return n;

@@ -1,6 +1,7 @@
 // What the moves of a position say: whether a round takes it, and which move it chooses.
 ghost use Rattle.std.specs.Prelude.{◌≡◌, ◌<◌, ◌≤◌, Bool, true, cond, length};
-ghost use Rattle.game.specs.Sides.{same};
+ghost use Rattle.std.proofs.Props.{props};
+ghost use Rattle.game.specs.Sides.{opposite, same};
 ghost use Rattle.game.specs.Positions.{position, degree, target};
 ghost use Rattle.game.specs.Sheets.{entry_of};
 ghost use Rattle.rounds.specs.Below.{first_true};
@@ -12,92 +13,111 @@ use game::reads::{degree_of, kind_of, level_of, owner_of, target_of};
 use game::sheet::Entry;
 use game::side::Side;
 
-// Whether move `k` of `v` leads to a position that is the taker's already, before round `n` + 1 of the level.
-pub(crate) fn leads_already<G: Game>(
-    game: &G,
-    sheet: &[Entry],
-    v: usize,
-    k: usize,
-    n: usize,
-) -> bool
-    requires sized { length sheet.now ≡ length (G.Game.meaning game.now) }
-    requires read { Readable (G.Game.meaning game.now) (position (G.Game.meaning game.now) v).level n sheet.now }
-    requires within { k < degree (G.Game.meaning game.now) v }
-    ensures { result ≡ leads_already (G.Game.meaning game.now) (colour_of (G.Game.meaning game.now)) (taken (G.Game.meaning game.now) n) v k }
-{
-    let w = target_of(game, v, k);
-    if level_of(game, v) < level_of(game, w) {
-        sheet[w].colour == kind_of(game, v).other().number()
-    } else {
-        sheet[w].rank >= 1 && sheet[w].rank as usize <= n
-    }
+// Position `v` before round `n` + 1 of its level, with a sheet that tells what the round reads. Its level and its
+// taker stand by, for each move asks for them.
+// `by { Prim.hlevel props }` shows that a ghost field's fact is a proposition, as a ghost field asks: any two
+// proofs of it are equal.
+#[derive(Drop)]
+pub(crate) struct Waiting<'a, G: Game> {
+    pub(crate) game: &'a G,
+    pub(crate) sheet: &'a [Entry],
+    pub(crate) v: usize,
+    pub(crate) n: usize,
+    pub(crate) level: usize,
+    pub(crate) taker: Side,
+    ghost same_level: { level ≡ (position (G.Game.meaning game.now) v).level },
+    ghost against_kind: { taker ≡ opposite (position (G.Game.meaning game.now) v).kind },
+    ghost read: { Readable (G.Game.meaning game.now) (position (G.Game.meaning game.now) v).level n sheet.now } by { Prim.hlevel props },
 }
 
-// Whether the taker of `v` owns it.
-fn taker_owns<G: Game>(game: &G, v: usize) -> bool
-    ensures { result ≡ same (taker (G.Game.meaning game.now) v) (position (G.Game.meaning game.now) v).owner }
-{
-    kind_of(game, v).other() == owner_of(game, v)
-}
-
-// Whether what was taken by round `n` forces `v`: the taker owns it and some move leads to a position
-// that is the taker's already, or the other side owns it and every move does.
-pub(crate) fn is_forced<G: Game>(game: &G, sheet: &[Entry], v: usize, n: usize) -> bool
-    requires sized { length sheet.now ≡ length (G.Game.meaning game.now) }
-    requires read { Readable (G.Game.meaning game.now) (position (G.Game.meaning game.now) v).level n sheet.now }
-    ensures { result ≡ forced (G.Game.meaning game.now) (colour_of (G.Game.meaning game.now)) (taken (G.Game.meaning game.now) n) v }
-{
-    let owns = taker_owns(game, v);
-    for k in 0..degree_of(game, v) {
-        if leads_already(game, sheet, v, k, n) == owns {
-            return owns;
+impl<G: Game> Waiting<'_, G> {
+    // Whether move `k` leads to a position that is the taker's already.
+    #[inline(always)]
+    fn leads_already(&self, k: usize) -> bool
+        requires { k < degree (G.Game.meaning self.now.game.now) self.now.v }
+        ensures { result ≡ leads_already (G.Game.meaning self.now.game.now) (colour_of (G.Game.meaning self.now.game.now)) (taken (G.Game.meaning self.now.game.now) self.now.n) self.now.v k }
+    {
+        let w = target_of(self.game, self.v, k);
+        if self.level < level_of(self.game, w) {
+            self.sheet[w].colour == u8::from(self.taker)
+        } else {
+            self.sheet[w].rank >= 1 && self.sheet[w].rank as usize <= self.n
         }
     }
-    !owns
-}
 
-// Whether `v` may choose move `k`: it was taken and the move leads to a position that was the taker's
-// before, or it was not and the move leads to a position of the same colour.
-fn is_suited<G: Game>(game: &G, sheet: &[Entry], v: usize, k: usize) -> bool
-    requires sized { length sheet.now ≡ length (G.Game.meaning game.now) }
-    requires here { v < length sheet.now }
-    requires within { k < degree (G.Game.meaning game.now) v }
-    requires filled { DoneFrom (G.Game.meaning game.now) 0 sheet.now }
-    ensures { result ≡ suits (G.Game.meaning game.now) v k }
-{
-    let rank = sheet[v].rank;
-    if rank == 0 {
-        sheet[target_of(game, v, k)].colour == sheet[v].colour
-    } else {
-        leads_already(game, sheet, v, k, rank as usize - 1)
+    // Whether the taker owns the position.
+    #[inline(always)]
+    fn taker_owns(&self) -> bool
+        ensures { result ≡ same (taker (G.Game.meaning self.now.game.now) self.now.v) (position (G.Game.meaning self.now.game.now) self.now.v).owner }
+    {
+        self.taker == owner_of(self.game, self.v)
     }
-}
 
-// The first move that `v` may choose, or 0.
-fn first_suited<G: Game>(game: &G, sheet: &[Entry], v: usize) -> u16
-    requires sized { length sheet.now ≡ length (G.Game.meaning game.now) }
-    requires here { v < length sheet.now }
-    requires filled { DoneFrom (G.Game.meaning game.now) 0 sheet.now }
-    ensures { result ≡ first_true (suits (G.Game.meaning game.now) v) (degree (G.Game.meaning game.now) v) }
-{
-    for k in 0..degree_of(game, v) {
-        if is_suited(game, sheet, v, k) {
-            return k as u16;
+    // Whether what was taken by round `n` forces the position: the taker owns it and some move leads to a
+    // position that is the taker's already, or the other side owns it and every move does.
+    #[inline(always)]
+    pub(crate) fn is_forced(&self) -> bool
+        ensures { result ≡ forced (G.Game.meaning self.now.game.now) (colour_of (G.Game.meaning self.now.game.now)) (taken (G.Game.meaning self.now.game.now) self.now.n) self.now.v }
+    {
+        let mut moves = 0..degree_of(self.game, self.v);
+        if self.taker_owns() {
+            moves.any(|k| self.leads_already(k))
+        } else {
+            moves.all(|k| self.leads_already(k))
         }
     }
-    0
 }
 
-// The choice at `v`, all colours and ranks being final.
-pub(crate) fn choice_at<G: Game>(game: &G, sheet: &[Entry], v: usize) -> u16
-    requires sized { length sheet.now ≡ length (G.Game.meaning game.now) }
-    requires here { v < length sheet.now }
-    requires filled { DoneFrom (G.Game.meaning game.now) 0 sheet.now }
-    ensures { result ≡ choice_of (G.Game.meaning game.now) v }
-{
-    if owner_of(game, v).number() == sheet[v].colour {
-        first_suited(game, sheet, v)
-    } else {
-        0
+// Position `v`, with a sheet whose colours and ranks are final.
+#[derive(Drop)]
+pub(crate) struct Settled<'a, G: Game> {
+    pub(crate) game: &'a G,
+    pub(crate) sheet: &'a [Entry],
+    pub(crate) v: usize,
+    ghost here: { v < length (G.Game.meaning game.now) },
+    ghost filled: { DoneFrom (G.Game.meaning game.now) 0 sheet.now } by { Prim.hlevel props },
+}
+
+impl<G: Game> Settled<'_, G> {
+    // Whether the position may choose move `k`: it was taken and the move leads to a position that was the
+    // taker's before, or it was not and the move leads to a position of the same colour.
+    fn is_suited(&self, k: usize) -> bool
+        requires { k < degree (G.Game.meaning self.now.game.now) self.now.v }
+        ensures { result ≡ suits (G.Game.meaning self.now.game.now) self.now.v k }
+    {
+        let rank = self.sheet[self.v].rank;
+        if rank == 0 {
+            self.sheet[target_of(self.game, self.v, k)].colour == self.sheet[self.v].colour
+        } else {
+            let waiting = Waiting {
+                game: self.game,
+                sheet: self.sheet,
+                v: self.v,
+                n: rank as usize - 1,
+                level: level_of(self.game, self.v),
+                taker: kind_of(self.game, self.v).other(),
+            };
+            waiting.leads_already(k)
+        }
+    }
+
+    // The first move that the position may choose, or 0.
+    fn first_suited(&self) -> u16
+        ensures { result ≡ first_true (suits (G.Game.meaning self.now.game.now) self.now.v) (degree (G.Game.meaning self.now.game.now) self.now.v) }
+    {
+        (0..degree_of(self.game, self.v))
+            .find(|k| self.is_suited(*k))
+            .unwrap_or(0) as u16
+    }
+
+    // The choice at the position.
+    pub(crate) fn choice(&self) -> u16
+        ensures { result ≡ choice_of (G.Game.meaning self.now.game.now) self.now.v }
+    {
+        if self.sheet[self.v].colour == u8::from(owner_of(self.game, self.v)) {
+            self.first_suited()
+        } else {
+            0
+        }
     }
 }

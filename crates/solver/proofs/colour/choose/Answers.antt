@@ -1,7 +1,6 @@
 use Rattle.std.proofs.Common.{◌≡◌, List, None, sym, subst, arith}
 use Rattle.game.specs.declared.sheet.Entry.{Entry}
 use Rattle.game.specs.Checking.{checked}
-use Rattle.game.proofs.Checks.{lawful}
 use Rattle.game.proofs.Kept.{keeps_accepted}
 use Rattle.rounds.specs.Rounds.{colouring}
 use Rattle.rounds.specs.Ruled.{RuledByRounds}
@@ -12,10 +11,9 @@ use Rattle.solver.proofs.colour.choose.Goals as goal
 
 pub returns : goal.returns
 returns g c =
-    let x = c.args.game.now in
-    let ps = g.G.Game.meaning x in
-    let law = lawful (g.met.G.Game.bounded x) (g.met.G.Game.monotone x) (g.met.G.Game.keeps x) in
-    let whole = filled_all ps law c.loop-v.sheet c.loop-v.v (omega (arith, c.requires.sized, c.loop-v.auto.sheet)) (omega (arith, c.requires.sized, c.loop-v-test.false)) c.loop-v.invariant in
+    let ps = g.G.Game.meaning c.args.game.now in
+    let law = g.met.G.Game.lawful c.args.game.now in
+    let whole = filled_all ps law c.loop-v.sheet c.loop-v.v (omega (arith, c.requires.sized, c.loop-v-test.false)) c.loop-v.invariant in
     record {
       sheet = whole;
       accepted = subst (λ (es : List Entry). checked ps es ≡ None) (sym whole) (keeps_accepted ps (colouring ps) (colouring_keeps ps law));

@@ -1,13 +1,12 @@
 use Rattle.std.proofs.Common.{ℕ, suc, set, sym, refl, ◌∙◌, subst, add-one, arith}
 use Rattle.game.specs.declared.sheet.Entry.{Entry}
+use Rattle.std.proofs.lemmas.List.{set-get_or}
 use Rattle.game.specs.Positions.{position}
+use Rattle.game.specs.Sheets.{blank_entry}
 use Rattle.solver.specs.Stages.{Cleared}
-use Rattle.solver.proofs.Stages.{mark_same, cleared_here, cleared_other, cleared_all}
+use Rattle.solver.proofs.Stages.{mark_same, cleared_here, cleared_other}
 use Rattle.solver.proofs.level.clear.Goals as goal
 use Rattle.solver.proofs.level.clear.Goals.{then-level_of-level, else-level_of-level}
-
-pub loop-v-init : goal.loop-v-init
-loop-v-init g c = record { above = c.requires.above; passed = λ w b d e. absurd (omega arith) }
 
 pub loop-v-preserved : goal.loop-v-preserved
 loop-v-preserved g c =
@@ -20,10 +19,7 @@ loop-v-preserved g c =
       | then-level_of-level w ↦
           let mark = sym (w.mark.ensures ∙ mark_same w.kind_of.result (position ps v).kind 0 0 w.kind_of.ensures refl) in
           subst (λ xs. Cleared ps l (suc v) xs) (sym w.sheet-is) (subst (λ (e : Entry). Cleared ps l (suc v) (set es v e)) mark
-          (cleared_here ps l v es c.loop-v.invariant (omega (arith, c.loop-v.auto.sheet, c.requires.sized)) (omega (arith, c.loop-v-test.true, c.requires.sized)) (sym c.level_of.ensures ∙ w.if-level_of-level.true)))
+          (cleared_here ps l v es c.loop-v.invariant (omega (arith, c.loop-v-test.true, c.requires.sized)) (sym c.level_of.ensures ∙ w.if-level_of-level.true)))
       | else-level_of-level w ↦
-          subst (λ xs. Cleared ps l (suc v) xs) (sym w.sheet-is) (cleared_other ps l v es c.loop-v.invariant (λ e. w.if-level_of-level.false (c.level_of.ensures ∙ e)))
+          subst (λ xs. Cleared ps l (suc v) xs) (sym (w.sheet-is ∙ set-get_or es v blank_entry)) (cleared_other ps l v es c.loop-v.invariant (λ e. w.if-level_of-level.false (c.level_of.ensures ∙ e)))
     ])
-
-pub returns : goal.returns
-returns g c = cleared_all _ c.args.level c.loop-v.v c.loop-v.sheet c.loop-v.invariant (omega (arith, c.loop-v-test.false, c.requires.sized))

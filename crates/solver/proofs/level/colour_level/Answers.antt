@@ -1,6 +1,4 @@
-use Rattle.std.proofs.Common.{◌≡◌, ℕ, suc, ◌<◌, length, sym, refl, ap, ◌∙◌, subst, add-one, arith}
-use Rattle.game.proofs.Checks.{lawful}
-use Rattle.rounds.specs.Below.{count_below}
+use Rattle.std.proofs.Common.{ℕ, suc, ◌<◌, length, sym, ◌∙◌, subst, add-one, arith}
 use Rattle.rounds.specs.Rounds.{adds, colour_of}
 use Rattle.rounds.proofs.Belows.{count_none, count_full, count_stop}
 use Rattle.rounds.proofs.Taking.{still_if, still_later, none_later}
@@ -21,11 +19,10 @@ loop-n-preserved g c =
 
 pub returns-then-not-round : goal.returns-then-not-round
 returns-then-not-round g c =
-    let x = c.args.game.now in
-    let ps = g.G.Game.meaning x in
+    let ps = g.G.Game.meaning c.args.game.now in
     let l = c.args.level in
     let n = c.loop-n.n in
-    let law = lawful (g.met.G.Game.bounded x) (g.met.G.Game.monotone x) (g.met.G.Game.keeps x) in
+    let law = g.met.G.Game.lawful c.args.game.now in
     let none = sym c.round.ensures.added ∙ c.if-not-round.true in
     let still = still_if ps law (colour_of ps) l n none in
     let few : n < length ps = omega (arith, c.requires.sized, c.clear.auto.sheet, c.loop-n-test.true) in
@@ -34,14 +31,4 @@ returns-then-not-round g c =
           (record { at = λ w b e. (still_later ps law (colour_of ps) l n still (length ps) (omega arith)).at w b e ∙ sym ((still_later ps law (colour_of ps) l n still (suc n) (omega arith)).at w b e) })
           c.round.ensures.stage;
       rounds = sym (count_stop (adds ps l) n (length ps) c.loop-n.invariant.1 (omega arith) (λ j a b. none_later ps law (colour_of ps) l n j none a));
-    }
-
-pub returns : goal.returns
-returns g c =
-    let ps = g.G.Game.meaning c.args.game.now in
-    let l = c.args.level in
-    let end : c.loop-n.n ≡ length ps = omega (arith, c.requires.sized, c.clear.auto.sheet, c.loop-n.auto.n-end, c.loop-n-test.false) in
-    record {
-      done = level_done ps l (length ps) c.loop-n.sheet (omega arith) (record { at = λ w b e. refl }) (subst (λ (i : ℕ). Stage ps l i 0 c.loop-n.sheet) end c.loop-n.invariant.0);
-      rounds = (let z : length c.loop-n.sheet ≡ c.loop-n.n = omega (arith, c.loop-n.auto.sheet, c.loop-n.auto.n-end, c.loop-n-test.false) in z) ∙ sym c.loop-n.invariant.1 ∙ ap (count_below (adds ps l)) end;
     }
