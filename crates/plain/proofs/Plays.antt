@@ -54,8 +54,8 @@ cond_same false x y z h = refl
 -- a turn that is over is over for want of moves
 ended_if : (b s : Bool) → cond b turn.Ended (cond s turn.House turn.Guest) ≡ turn.Ended → b ≡ true
 ended_if true s e = refl
-ended_if false true e = let z : ◌≡◌ {A = ℕ} 0 1 = cc in absurd (omega arith)
-ended_if false false e = let z : ◌≡◌ {A = ℕ} 0 1 = cc in absurd (omega arith)
+ended_if false true e = grind arith
+ended_if false false e = grind arith
 
 -- a run that is good for the house does not end at its position
 not_lost : (ps : List Position) (house : Side) (run : List ℕ) → 0 < length run → Good ps house run → HasLost ps house run house → ⊥

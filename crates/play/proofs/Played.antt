@@ -1,6 +1,7 @@
 -- What a list of calls comes to, from what set out answers.
 use Rattle.std.proofs.Common.{◌≡◌, ℕ, true, false, eqb, List, length, Some, None, Ok, Err, Option, Result, sym, refl, ap, ◌∙◌, subst, arith}
 use Rattle.std.specs.Option.{option_map}
+use Rattle.std.proofs.lemmas.Option.{none-some}
 use Rattle.std.proofs.lemmas.Bool.{cond-true, cond-false, ltb-true}
 use Rattle.game.specs.declared.sheet.Entry.{Entry}
 use Rattle.game.specs.Positions.{Position}
@@ -21,16 +22,16 @@ use Rattle.play.specs.CallLists.{calls_refusal, played_by, Written}
 
 -- an outcome, or a refusal
 outcome_from : (o : Option Refused) (x y : Standing) → Ok x ≡ answered o y → (o ≡ None) × (x ≡ y)
-outcome_from None x y e = (refl, cc)
-outcome_from (Some r) x y e = let z : ◌≡◌ {A = ℕ} 0 1 = cc in absurd (omega arith)
+outcome_from None x y e = (refl, grind arith)
+outcome_from (Some r) x y e = absurd (grind arith)
 
 refusal_from : (o : Option Refused) (r : Refused) (y : Standing) → Err r ≡ answered o y → Some r ≡ o
-refusal_from None r y e = let z : ◌≡◌ {A = ℕ} 0 1 = cc in absurd (omega arith)
-refusal_from (Some q) r y e = let z : r ≡ q = cc in ap {B = Option Refused} Some z
+refusal_from None r y e = grind arith
+refusal_from (Some q) r y e = grind arith
 
 unmapped : {X Y : Type 0} (f : X → Y) (o : Option X) → option_map f o ≡ None → o ≡ None
 unmapped f None e = refl
-unmapped f (Some x) e = let z : ◌≡◌ {A = ℕ} 0 1 = cc in absurd (omega arith)
+unmapped f (Some x) e = absurd (none-some _ (sym e))
 
 module _ (ps : List Position) (es : List Entry) (start : ℕ) (calls : List Call) (places : ℕ) where
   pub misfit : false ≡ eqb places (length calls) → Some (refused 0) ≡ calls_refusal ps es start calls places

@@ -2,6 +2,7 @@
 use Rattle.std.proofs.Common.{◌≡◌, ℕ, ◌+◌, ◌<◌, ◌≤◌, Bool, true, false, cond, List, [], ◌∷◌, ◌++◌, map, length, get_or, take, drop, set, Some, None, Result, sym, refl, ap, ◌∙◌, arith}
 use Rattle.std.specs.Bool.{then_some}
 use Rattle.std.proofs.lemmas.List.{append-nil, append_assoc, length-map, length-take-le, at_drop_more, at_drop_all, take_more_set, map_push, drop-set-lt, drop-drop}
+use Rattle.std.proofs.lemmas.Option.{none-some, same_Some}
 use Rattle.std.proofs.lemmas.Bool.{cond-true, cond-false}
 use Rattle.game.specs.declared.sheet.Entry.{Entry}
 use Rattle.game.specs.Positions.{Position}
@@ -22,17 +23,14 @@ pub record Progress (ps : List Position) (es : List Entry) (s : Standing) (calls
 
 -- what comes of a call that the turn allows, and of one that it does not
 allowed : (b : Bool) {X : Type 0} (x y : X) → Some x ≡ then_some b y → (b ≡ true) × (x ≡ y)
-allowed true x y e = (refl, cc)
-allowed false x y e = let z : ◌≡◌ {A = ℕ} 0 1 = cc in absurd (omega arith)
+allowed true x y e = (refl, same_Some x y e)
+allowed false x y e = absurd (none-some x (sym e))
 
 barred : (b : Bool) {X : Type 0} (y : X) → None ≡ then_some b y → b ≡ false
-barred true y e = let z : ◌≡◌ {A = ℕ} 0 1 = cc in absurd (omega arith)
+barred true y e = absurd (none-some y e)
 barred false y e = refl
 
 module _ (ps : List Position) (es : List Entry) (s : Standing) (calls : List Call) (before : List (Result Standing CallRefusal)) where
-  pub begun : Progress ps es s calls before 0 s before
-  begun = record { answered = refl; beyond = refl; after = refl }
-
   module _ (i : ℕ) (o : Standing) (answers : List (Result Standing CallRefusal)) (p : Progress ps es s calls before i o answers) (long : length answers ≡ length calls) where
     -- no more calls are made
     stop : i ≤ length calls → answers_from ps es o (drop i calls) ≡ [] → (i ≡ length (answers_from ps es s calls)) × Written (answers_from ps es s calls) before answers

@@ -1,7 +1,8 @@
 -- What the answers of the calls tell.
-use Rattle.std.specs.Prelude.{Result}
+use Rattle.std.specs.Prelude.{ℕ, List, ◌++◌, Result, codes}
 use Rattle.std.specs.Result.{result_map_both}
-use Rattle.game.specs.Refusals.{Refused, refused, tells}
+use Rattle.game.specs.declared.refusal.GivenBack.{GivenBack}
+use Rattle.game.specs.Refusals.{Refused, refused, tells, refusal_text}
 use Rattle.plain.specs.declared.standing.Turn.TheVariants as turn
 use Rattle.plain.specs.declared.standing.Standing.{Standing}
 use Rattle.plain.specs.Calls.{sheet_refused}
@@ -11,7 +12,6 @@ use Rattle.play.specs.declared.refusal.CallRefusal.{CallRefusal}
 use Rattle.play.specs.declared.refusal.CallRefusal.TheVariants.{Mismatch, Steps, Move}
 use Rattle.play.specs.declared.refusal.CallsRefusal.{CallsRefusal}
 use Rattle.play.specs.declared.refusal.CallsRefusal.TheVariants.{Answers, SetOut}
-use Rattle.play.specs.declared.refusal.TurnRefused.{TurnRefused}
 use Rattle.play.specs.declared.turn.Outcome.{Outcome}
 use Rattle.play.specs.declared.turn.Outcome.TheVariants.{House, Guest, Ended}
 
@@ -31,6 +31,16 @@ abbrev pub calls_tells : CallsRefusal → Refused
 calls_tells Answers = refused 0
 calls_tells (SetOut r) = set_out_tells r
 
+-- How it is printed that no play is set out: by its number, and where the check refuses the sheet, how that refusal is printed too.
+abbrev pub set_out_text : SetOutRefusal → List ℕ
+set_out_text Start = refusal_text (refused 31)
+set_out_text (Sheet r) = refusal_text (refused 32) ++ (codes ": " ++ refusal_text (tells r))
+
+-- How it is printed that a list of calls is not played: by the number 0, else as for setting out.
+abbrev pub calls_text : CallsRefusal → List ℕ
+calls_text Answers = refusal_text (refused 0)
+calls_text (SetOut r) = set_out_text r
+
 -- What an outcome tells: whose turn it is, and the record so far.
 abbrev pub outcome_tells : Outcome → Standing
 outcome_tells (House t) = record { turn = turn.House; log = t.log }
@@ -42,7 +52,7 @@ abbrev pub set_out_told : Result Outcome SetOutRefusal → Result Standing Refus
 set_out_told r = result_map_both outcome_tells set_out_tells r
 
 -- What a call on a turn answers.
-abbrev pub call_told : {T : Type 0} → Result Outcome (TurnRefused T) → Result Standing Refused
+abbrev pub call_told : {T : Type 0} → Result Outcome (GivenBack CallRefusal T) → Result Standing Refused
 call_told r = result_map_both outcome_tells (λ e. call_tells e.refusal) r
 
 -- What an answer to a call of a list tells.

@@ -1,19 +1,18 @@
 // A list of calls, played from a start.
-ghost use Rattle.std.specs.Prelude.{◌≡◌, true, length, IfOk, if◌then◌else◌, MatchResult, ◌==◌};
+ghost use Rattle.std.specs.Prelude.{◌≡◌, length, IfOk, IfErr, if◌then◌else◌, MatchResult, ◌==◌};
 ghost use Rattle.std.specs.Option.{option_map};
 ghost use Rattle.std.specs.Bool.{then_some};
 ghost use Rattle.game.specs.Refusals.{told};
-ghost use Rattle.plain.specs.declared.call.Call.TheVariants.{Go, Reply};
 ghost use Rattle.plain.specs.Plain.{comes, plain_answers};
 ghost use Rattle.plain.specs.Calls.{call_of, next_of, answers_from, standing_after};
-ghost use Rattle.play.specs.declared.turn.Outcome.TheVariants.{House, Guest};
-ghost use Rattle.play.specs.Told.{outcome_tells, answer_told, calls_tells};
+ghost use Rattle.play.specs.Told.{outcome_tells, call_told, answer_told, calls_tells};
 ghost use Rattle.play.specs.CallLists.{calls_refusal, played_by, Written};
 ghost use Rattle.play.specs.Promise.{Promise};
 
-use crate::refusal::{CallRefusal, CallsRefusal};
+use crate::board::Board;
+use crate::refusal::{CallRefusal, CallsRefusal, TurnRefused};
 use crate::set_out::set_out;
-use crate::turn::{GuestTurn, HouseTurn, Outcome};
+use crate::turn::Outcome;
 use game::arena::Game;
 use game::sheet::Entry;
 use plain::call::Call;
@@ -24,7 +23,7 @@ pub type Answer = Result<Standing, CallRefusal>;
 
 // What a list of calls came to: the first outcome, how many calls were made, refused ones too, and the
 // record at the end.
-#[derive(Clone, Copy)]
+#[derive(Clone, Copy, PartialEq, Eq, Debug)]
 pub struct CallsPlayed {
     pub first: Standing,
     pub made: usize,
@@ -45,92 +44,58 @@ struct Stopped {
     outcome: Outcome,
 }
 
-// Go on a house's turn.
-fn make_go<G: Game>(game: &G, sheet: &[Entry], turn: HouseTurn) -> Made
-    ensures answer { option_map answer_told result.answer ≡ then_some true (call_of (G.Game.meaning game.now) sheet.now turn.log Go) }
-    ensures next { outcome_tells result.next ≡ next_of (outcome_tells (House turn)) (call_of (G.Game.meaning game.now) sheet.now turn.log Go) }
+// What a call came to, by what the turn answers.
+fn made_by<T: Into<Outcome>>(answer: Result<Outcome, TurnRefused<T>>) -> Made
+    ensures answer { option_map answer_told result.answer ≡ Some (call_told answer) }
+    ensures next { IfOk answer (λ next. result.next ≡ next) }
+    ensures given { IfErr answer (λ e. T.converts e.given result.next) }
 {
-    match turn.go(game, sheet) {
+    match answer {
         Ok(next) => Made {
             answer: Some(Ok(next.standing())),
             next,
         },
         Err(refused) => Made {
             answer: Some(Err(refused.refusal)),
-            next: Outcome::House(refused.turn),
+            next: refused.given.into(),
         },
     }
 }
 
-// Reply `k` on a guest's turn.
-fn make_reply<G: Game>(game: &G, sheet: &[Entry], turn: GuestTurn, k: usize) -> Made
-    ensures answer { option_map answer_told result.answer ≡ then_some true (call_of (G.Game.meaning game.now) sheet.now turn.log (Reply k)) }
-    ensures next { outcome_tells result.next ≡ next_of (outcome_tells (Guest turn)) (call_of (G.Game.meaning game.now) sheet.now turn.log (Reply k)) }
-{
-    match turn.reply(game, sheet, k) {
-        Ok(next) => Made {
-            answer: Some(Ok(next.standing())),
-            next,
-        },
-        Err(refused) => Made {
-            answer: Some(Err(refused.refusal)),
-            next: Outcome::Guest(refused.turn),
-        },
-    }
-}
-
-// A call of a list, made if the turn allows it.
-fn make_call<G: Game>(game: &G, sheet: &[Entry], outcome: Outcome, call: Call) -> Made
-    ensures answer { option_map answer_told result.answer ≡ then_some (comes (outcome_tells outcome).turn call) (call_of (G.Game.meaning game.now) sheet.now (outcome_tells outcome).log call) }
-    ensures next { outcome_tells result.next ≡ (if comes (outcome_tells outcome).turn call then next_of (outcome_tells outcome) (call_of (G.Game.meaning game.now) sheet.now (outcome_tells outcome).log call) else outcome_tells outcome) }
-{
-    match outcome {
-        Outcome::House(turn) => match call {
-            Call::Go => make_go(game, sheet, turn),
-            Call::Reply(_) => Made {
-                answer: None,
-                next: Outcome::House(turn),
-            },
-        },
-        Outcome::Guest(turn) => match call {
-            Call::Go => Made {
-                answer: None,
-                next: Outcome::Guest(turn),
-            },
-            Call::Reply(k) => make_reply(game, sheet, turn, k),
-        },
-        Outcome::Ended(play) => Made {
-            answer: None,
-            next: Outcome::Ended(play),
-        },
-    }
-}
-
-// The calls of a list, one after another, up to the first that the turn at hand does not allow.
-fn make_calls<G: Game>(
-    game: &G,
-    sheet: &[Entry],
-    first: Outcome,
-    calls: &[Call],
-    answers: &mut [Answer],
-) -> Stopped
-    requires { length answers.old ≡ length calls.now }
-    ensures made { result.made ≡ length (answers_from (G.Game.meaning game.now) sheet.now (outcome_tells first) calls.now) }
-    ensures answers { Written (answers_from (G.Game.meaning game.now) sheet.now (outcome_tells first) calls.now) answers.old answers.new }
-    ensures outcome { outcome_tells result.outcome ≡ standing_after (G.Game.meaning game.now) sheet.now (outcome_tells first) calls.now }
-{
-    let mut outcome = first;
-    for i in 0..calls.len() {
-        let made = make_call(game, sheet, outcome, calls[i]);
-        outcome = made.next;
-        match made.answer {
-            Some(answer) => answers[i] = answer,
-            None => return Stopped { made: i, outcome },
+impl<'a, G: Game> Board<'a, G> {
+    // A call of a list, made if the turn allows it.
+    fn make_call(&self, outcome: Outcome, call: Call) -> Made
+        ensures answer { option_map answer_told result.answer ≡ then_some (comes (outcome_tells outcome).turn call) (call_of (G.Game.meaning self.now.game.now) self.now.sheet.now (outcome_tells outcome).log call) }
+        ensures next { outcome_tells result.next ≡ (if comes (outcome_tells outcome).turn call then next_of (outcome_tells outcome) (call_of (G.Game.meaning self.now.game.now) self.now.sheet.now (outcome_tells outcome).log call) else outcome_tells outcome) }
+    {
+        match (outcome, call) {
+            (Outcome::House(turn), Call::Go) => made_by(turn.go(self.game, self.sheet)),
+            (Outcome::Guest(turn), Call::Reply(k)) => made_by(turn.reply(self.game, self.sheet, k)),
+            (next, _) => Made { answer: None, next },
         }
     }
-    Stopped {
-        made: calls.len(),
-        outcome,
+
+    // The calls of a list, one after another, up to the first that the turn at hand does not allow.
+    fn make_calls(&self, first: Outcome, calls: &[Call], answers: &mut [Answer]) -> Stopped
+        requires { length answers.old ≡ length calls.now }
+        ensures made { result.made ≡ length (answers_from (G.Game.meaning self.now.game.now) self.now.sheet.now (outcome_tells first) calls.now) }
+        ensures answers { Written (answers_from (G.Game.meaning self.now.game.now) self.now.sheet.now (outcome_tells first) calls.now) answers.old answers.new }
+        ensures outcome { outcome_tells result.outcome ≡ standing_after (G.Game.meaning self.now.game.now) self.now.sheet.now (outcome_tells first) calls.now }
+    {
+        let mut outcome = first;
+        // `answers` is written by index, since a `zip` of its `iter_mut` states nothing of what was written.
+        for (i, call) in calls.iter().enumerate() {
+            let made = self.make_call(outcome, *call);
+            outcome = made.next;
+            match made.answer {
+                Some(answer) => answers[i] = answer,
+                None => return Stopped { made: i, outcome },
+            }
+        }
+        Stopped {
+            made: calls.len(),
+            outcome,
+        }
     }
 }
 
@@ -144,6 +109,7 @@ fn fits_calls(answers: &[Answer], calls: &[Call]) -> bool
 // Plays a list of calls from `start`: sets out a play, makes each call on the turn that the one before
 // gave, and ends the play after the last, or before the first call that the turn at hand does not allow.
 // The answers go into `answers`, which has one place for each call; what lies beyond them stays.
+#[tactic(auto, using(crate::proofs::Promised::promise, crate::proofs::Played::misfit, crate::proofs::Played::not_set_out, crate::proofs::Played::is_set_out))]
 pub fn play_calls<G: Game>(
     game: &G,
     sheet: &[Entry],
@@ -159,16 +125,12 @@ pub fn play_calls<G: Game>(
     if !fits_calls(answers, calls) {
         return Err(CallsRefusal::Answers);
     }
-    match set_out(game, sheet, start) {
-        Ok(outcome) => {
-            let first = outcome.standing();
-            let stopped = make_calls(game, sheet, outcome, calls, answers);
-            Ok(CallsPlayed {
-                first,
-                made: stopped.made,
-                at_end: stopped.outcome.end(),
-            })
-        }
-        Err(refusal) => Err(CallsRefusal::SetOut(refusal)),
-    }
+    let outcome = set_out(game, sheet, start)?;
+    let first = outcome.standing();
+    let stopped = Board { game, sheet }.make_calls(outcome, calls, answers);
+    Ok(CallsPlayed {
+        first,
+        made: stopped.made,
+        at_end: stopped.outcome.end(),
+    })
 }

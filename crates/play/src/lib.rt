@@ -2,11 +2,10 @@
 // on by value.
 #![tactic(auto)]
 
+mod board;
 pub mod calls;
-mod ended;
 mod guest;
 mod house;
-mod outcome;
 pub mod refusal;
 pub mod set_out;
 mod steps;

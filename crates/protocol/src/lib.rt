@@ -21,7 +21,7 @@ pub fn answer<G: Game>(
     house: HouseTurn,
 ) -> Result<Outcome, TurnRefused<HouseTurn>>
     ensures answer { call_told result ≡ call_of (G.Game.meaning game.now) sheet.now house.log Go }
-    ensures turn { IfErr result (λ e. e.turn ≡ house) }
+    ensures turn { IfErr result (λ e. e.given ≡ house) }
 {
     house.go(game, sheet)
 }
@@ -34,7 +34,7 @@ pub fn answer_with<G: Game>(
     k: usize,
 ) -> Result<Outcome, TurnRefused<GuestTurn>>
     ensures answer { call_told result ≡ call_of (G.Game.meaning game.now) sheet.now guest.log (Reply k) }
-    ensures turn { IfErr result (λ e. e.turn ≡ guest) }
+    ensures turn { IfErr result (λ e. e.given ≡ guest) }
 {
     guest.reply(game, sheet, k)
 }

@@ -1,11 +1,8 @@
 use Rattle.std.proofs.Common.{◌≡◌, length, sym, ap, ◌∙◌, arith}
 use Rattle.std.specs.Option.{option_map}
 use Rattle.play.specs.Told.{answer_told}
-use Rattle.play.proofs.Progress.{begun, over, stopped, again}
-use Rattle.play.proofs.calls.make_calls.Goals as goal
-
-pub loop-i-init : goal.loop-i-init
-loop-i-init g c = begun _ _ _ _ _
+use Rattle.play.proofs.Progress.{over, stopped, again}
+use Rattle.play.proofs.board.Board.make_calls.Goals as goal
 
 pub loop-i-preserved : goal.loop-i-preserved
 loop-i-preserved g c = again _ _ _ _ _ _ _ _ c.loop-i.invariant (omega arith) c.loop-i-test.true _ c.make_call-made.ensures.next _ (ap (option_map answer_told) (sym c.in-Some.is) ∙ c.make_call-made.ensures.answer)
