@@ -1,81 +1,72 @@
--- The first line of what is left of a text, and the others.
-use Rattle.std.proofs.Common.{◌≡◌, ℕ, suc, ◌+◌, ◌-◌, ◌<◌, ◌≤◌, Bool, true, false, cond, not, ltb, List, [], ◌∷◌, length, get_or, take, drop, sym, refl, ap, ◌∙◌, subst, inl, inr, one-add, arith}
-use Rattle.std.specs.List.{prefix_len}
-use Rattle.std.proofs.lemmas.List.{drop-drop, drop_all, drop_more, length-drop}
-use Rattle.std.proofs.lemmas.List.Sums.{prefix_len-le-length}
-use Rattle.std.proofs.lemmas.Bool.{cases_Bool, cond-true, cond-false, ltb-false}
+-- The first line of a text, and the others.
+use Rattle.std.proofs.Common.{◌≡◌, ℕ, suc, ◌+◌, ◌<◌, ◌≤◌, true, false, not, List, [], ◌∷◌, length, take, drop, Some, None, sym, ap, ◌∙◌, inl, inr, one-add, add-one, arith}
+use Rattle.std.specs.List.{position, position_or_len}
+use Rattle.std.proofs.lemmas.Bool.{cases_Bool, cond-true, cond-false}
 use Rattle.std.proofs.lemmas.Bool.Decides.{nat_tests}
 use Rattle.text.specs.declared.class.Class.TheVariants.{LineFeed}
 use Rattle.text.specs.Classes.{of_class}
-use Rattle.text.specs.Lines.{Line, prefixed, lines_of, in_line}
+use Rattle.text.specs.Lines.{Line, prefixed, lines_of}
 
--- the line of the first m bytes, and the lines after the byte that ends it
+-- where the first line ends
+abbrev end_of : List ℕ → ℕ
+end_of bs = position_or_len (of_class LineFeed) bs
+
+-- at a line feed it is over
+end_at_feed : (b : ℕ) (bs : List ℕ) → of_class LineFeed b ≡ true → end_of (b ∷ bs) ≡ 0
+end_at_feed b bs feed = cond-false _ _ _ (ap not feed)
+
+-- any other byte is in it
+end_past : (b : ℕ) (bs : List ℕ) → of_class LineFeed b ≡ false → end_of (b ∷ bs) ≡ suc (end_of bs)
+end_past b bs other = cond-true _ _ _ (ap not other) ∙ one-add (end_of bs)
+
+-- the line of the first m bytes, and the lines after the line feed that ends it
 abbrev cut_at : List ℕ → ℕ → List Line
-cut_at bs m = record { bytes = take m bs; ended = ltb m (length bs) } ∷ lines_of (drop (suc m) bs)
+cut_at bs m = record { bytes = take m bs; ended = true } ∷ lines_of (drop (suc m) bs)
 
--- a line feed ends the line before it
-feed_cut : (b : ℕ) (bs : List ℕ) → of_class LineFeed b ≡ true → lines_of (b ∷ bs) ≡ cut_at (b ∷ bs) (prefix_len in_line (b ∷ bs))
+ended_line : (bs : List ℕ) → end_of bs < length bs → lines_of bs ≡ cut_at bs (end_of bs)
 unfolding lines_of
-feed_cut b bs feed =
-    let count : prefix_len in_line (b ∷ bs) ≡ 0 = cond-false _ _ _ (ap not feed) in
-    let more : true ≡ ltb 0 (length (b ∷ bs)) = grind (arith, nat_tests) in
-    cond-true _ _ _ feed ∙ ap (λ (x : Bool). record { bytes = []; ended = x } ∷ lines_of bs) more ∙ ap (cut_at (b ∷ bs)) (sym count)
+ended_line [] h = absurd (omega arith)
+ended_line (b ∷ bs) h = elim (cases_Bool (of_class LineFeed b)) [
+  | inl feed ↦ cond-true _ _ _ feed ∙ ap (cut_at (b ∷ bs)) (sym (end_at_feed b bs feed))
+  | inr other ↦
+      let past = end_past b bs other in
+      cond-false _ _ _ other ∙ ap (prefixed b) (ended_line bs (omega arith)) ∙ ap (cut_at (b ∷ bs)) (sym past)
+]
 
--- any other byte is in the line of what follows
-other_cut : (b : ℕ) (bs : List ℕ) → of_class LineFeed b ≡ false → prefixed b (lines_of bs) ≡ cut_at (b ∷ bs) (suc (prefix_len in_line bs)) → lines_of (b ∷ bs) ≡ cut_at (b ∷ bs) (prefix_len in_line (b ∷ bs))
+-- the only byte is the whole line
+one_line : (b : ℕ) → of_class LineFeed b ≡ false → lines_of (b ∷ []) ≡ record { bytes = b ∷ []; ended = false } ∷ []
 unfolding lines_of
-other_cut b bs other e =
-    let count : prefix_len in_line (b ∷ bs) ≡ suc (prefix_len in_line bs) = cond-true _ _ _ (ap not other) ∙ one-add _ in
-    cond-false _ _ _ other ∙ e ∙ ap (cut_at (b ∷ bs)) (sym count)
+one_line b other = cond-false _ _ _ other
 
-one_cut : (b : ℕ) → prefixed b (lines_of []) ≡ cut_at (b ∷ []) 1
+more_line : (b : ℕ) (bs : List ℕ) → of_class LineFeed b ≡ false → lines_of bs ≡ record { bytes = bs; ended = false } ∷ [] → lines_of (b ∷ bs) ≡ record { bytes = b ∷ bs; ended = false } ∷ []
 unfolding lines_of
-one_cut b = refl
+more_line b bs other e = cond-false _ _ _ other ∙ ap (prefixed b) e
 
-lower : (m n : ℕ) → ltb m n ≡ ltb (suc m) (suc n)
-lower m n = grind (arith, nat_tests)
+-- where no line feed comes, no byte is one
+no_feed : (b : ℕ) (bs : List ℕ) → length (b ∷ bs) ≤ end_of (b ∷ bs) → (of_class LineFeed b ≡ false) × (length bs ≤ end_of bs)
+no_feed b bs h = elim (cases_Bool (of_class LineFeed b)) [
+  | inl feed ↦ let over = end_at_feed b bs feed in absurd (omega arith)
+  | inr other ↦ let past = end_past b bs other in (other, omega arith)
+]
 
-more_cut : (b c : ℕ) (cs : List ℕ) (r : ℕ) → lines_of (c ∷ cs) ≡ cut_at (c ∷ cs) r → prefixed b (lines_of (c ∷ cs)) ≡ cut_at (b ∷ c ∷ cs) (suc r)
-more_cut b c cs r e = ap (prefixed b) e ∙ ap (λ (x : Bool). record { bytes = b ∷ take r (c ∷ cs); ended = x } ∷ lines_of (drop (suc r) (c ∷ cs))) (lower r (length (c ∷ cs)))
+-- with no line feed a text is one line
+last_line : (bs : List ℕ) (b : ℕ) → length (b ∷ bs) ≤ end_of (b ∷ bs) → lines_of (b ∷ bs) ≡ record { bytes = b ∷ bs; ended = false } ∷ []
+last_line [] b h = one_line b (no_feed b [] h).0
+last_line (c ∷ cs) b h = let (other, more) = no_feed b (c ∷ cs) h in more_line b (c ∷ cs) other (last_line cs c more)
 
-lines_cut : (bs : List ℕ) (b : ℕ) → lines_of (b ∷ bs) ≡ cut_at (b ∷ bs) (prefix_len in_line (b ∷ bs))
-lines_cut [] b = elim (cases_Bool (of_class LineFeed b)) [ inl feed ↦ feed_cut b [] feed | inr other ↦ other_cut b [] other (one_cut b) ]
-lines_cut (c ∷ cs) b = elim (cases_Bool (of_class LineFeed b)) [ inl feed ↦ feed_cut b (c ∷ cs) feed | inr other ↦ other_cut b (c ∷ cs) other (more_cut b c cs _ (lines_cut cs c)) ]
+-- by what a search for the line feed finds
+pub found_within : (text : List ℕ) (end : ℕ) → position (of_class LineFeed) text ≡ Some end → (end ≡ end_of text) × (end < length text)
+found_within text end e = grind (arith, nat_tests)
 
-module _ (text : List ℕ) (from : ℕ) (l : from < length text) (end : ℕ) (e : end ≡ from + prefix_len in_line (drop from text)) where
-  far : end ≤ length text
-  far =
-      let a = prefix_len-le-length in_line (drop from text) in
-      let b = length-drop from text in
-      omega arith
+none_within : (text : List ℕ) → position (of_class LineFeed) text ≡ None → length text ≤ end_of text
+none_within text e = grind (arith, nat_tests)
 
-  first_cut : lines_of (drop from text) ≡ record { bytes = take (end - from) (drop from text); ended = ltb end (length text) } ∷ lines_of (drop (end + 1) text)
-  first_cut =
-      let r = prefix_len in_line (drop from text) in
-      let back : r ≡ end - from = omega arith in
-      let b = length-drop from text in
-      let ends : ltb r (length (drop from text)) ≡ ltb end (length text) = grind (arith, nat_tests) in
-      let past : from + suc r ≡ end + 1 = omega arith in
-      subst (λ (bs : List ℕ). lines_of bs ≡ cut_at bs (prefix_len in_line bs)) (sym (drop_more text from 0 l)) (lines_cut (drop (from + 1) text) (get_or text from 0))
-      ∙ ap (λ (x : Bool). record { bytes = take r (drop from text); ended = x } ∷ lines_of (drop (suc r) (drop from text))) ends
-      ∙ ap (λ (bs : List ℕ). record { bytes = take r (drop from text); ended = ltb end (length text) } ∷ lines_of bs) (drop-drop (suc r) from text ∙ ap (λ (m : ℕ). drop m text) past)
-      ∙ ap (λ (m : ℕ). record { bytes = take m (drop from text); ended = ltb end (length text) } ∷ lines_of (drop (end + 1) text)) back
+pub found_line : (text : List ℕ) (end : ℕ) → position (of_class LineFeed) text ≡ Some end → lines_of text ≡ record { bytes = take end text; ended = true } ∷ lines_of (drop (end + 1) text)
+found_line text end e =
+    let (is, within) = found_within text end e in
+    ended_line text (omega arith) ∙ ap (cut_at text) (sym is) ∙ ap (λ (m : ℕ). record { bytes = take end text; ended = true } ∷ lines_of (drop m text)) (sym (add-one end))
 
-  -- where the next line begins
-  pub first_line : (next : ℕ) (bytes : List ℕ) → next ≡ cond (ltb end (length text)) (end + 1) end → bytes ≡ take (end - from) (drop from text) → lines_of (drop from text) ≡ record { bytes = bytes; ended = ltb end (length text) } ∷ lines_of (drop next text)
-  first_line next bytes n b =
-      first_cut
-      ∙ ap (λ (bs : List ℕ). record { bytes = bs; ended = ltb end (length text) } ∷ lines_of (drop (end + 1) text)) (sym b)
-      ∙ ap (λ (bs : List ℕ). record { bytes = bytes; ended = ltb end (length text) } ∷ lines_of bs) (same_rest next n)
-    where
-      same_rest : (m : ℕ) → m ≡ cond (ltb end (length text)) (end + 1) end → drop (end + 1) text ≡ drop m text
-      same_rest m n = elim (cases_Bool (ltb end (length text))) [
-        | inl is ↦ ap (λ (k : ℕ). drop k text) (sym (n ∙ cond-true _ _ _ is))
-        | inr no_more ↦
-            let past = ltb-false end (length text) no_more in
-            let at : m ≡ end = n ∙ cond-false _ _ _ no_more in
-            drop_all (end + 1) text (omega arith) ∙ sym (drop_all m text (omega arith))
-      ]
-
-  pub next_onward : (next : ℕ) → next ≡ cond (ltb end (length text)) (end + 1) end → (from < next) × (next ≤ length text)
-  next_onward next n = let f = far in (grind (arith, nat_tests), grind (arith, nat_tests))
+pub not_found_line : (text : List ℕ) → 0 < length text → position (of_class LineFeed) text ≡ None → lines_of text ≡ record { bytes = text; ended = false } ∷ lines_of []
+unfolding lines_of
+not_found_line [] some e = absurd (omega arith)
+not_found_line (b ∷ bs) some e = last_line bs b (none_within (b ∷ bs) e)

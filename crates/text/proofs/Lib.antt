@@ -1,5 +1,6 @@
-mod Tables
 mod Classes
+mod Numerals
 mod Lexemes
+mod Readings
 mod Shapes
 mod Cuts

@@ -1,12 +1,11 @@
 -- A line's shape, one token after another: what is left decides.
-use Rattle.std.proofs.Common.{◌≡◌, ℕ, Bool, true, false, cond, List, [], ◌∷◌, Some, None, Option, sym, refl, ap, ◌∙◌, arith}
+use Rattle.std.proofs.Common.{◌≡◌, Bool, true, false, cond, List, [], ◌∷◌, Some, None, Option, sym, refl, ap, ◌∙◌}
 use Rattle.std.specs.Option.{option_or}
 use Rattle.std.specs.Bool.{then_some}
 use Rattle.text.specs.declared.place.Place.{Place}
 use Rattle.text.specs.declared.shape.Shape.{Shape}
 use Rattle.text.specs.Refusals.{Refused}
-use Rattle.text.specs.Tokens.{Lexeme, lexical_refusal}
-use Rattle.text.specs.Reading.{next_refusal}
+use Rattle.text.specs.Tokens.{Lexeme, lexeme_refusal, lexical_refusal}
 use Rattle.text.specs.Forms.{shape_after, shape_of, is_deep, deep_place}
 
 -- no more tokens
@@ -15,25 +14,22 @@ module _ (rest : List Lexeme) (none : rest ≡ []) where
   unfolding lexical_refusal
   lexical_end = ap lexical_refusal none
 
-  pub shape_end : (s : Shape) → shape_of s rest ≡ s
-  shape_end s = ap (shape_of s) none
-
   pub deep_end : (s : Shape) (d : Option Place) → option_or d (deep_place s rest) ≡ d
   unfolding deep_place
   deep_end s None = ap (deep_place s) none
   deep_end s (Some p) = refl
 
--- the first token at fault
-pub lexical_first : (rest : List Lexeme) (r : Refused) → Some r ≡ next_refusal rest → Some r ≡ lexical_refusal rest
-unfolding lexical_refusal
-lexical_first [] r e = let z : ◌≡◌ {A = ℕ} 0 1 = cc in absurd (omega arith)
-lexical_first (t ∷ ts) r e = ap (λ (o : Option Refused). option_or o (lexical_refusal ts)) e
-
 -- one token more
 module _ (rest more : List Lexeme) (t : Lexeme) (is : rest ≡ t ∷ more) where
-  pub lexical_more : next_refusal rest ≡ None → lexical_refusal more ≡ lexical_refusal rest
+  -- at fault, the first of those that are left
+  pub lexical_first : (r : Refused) → Some r ≡ lexeme_refusal t → Some r ≡ lexical_refusal rest
   unfolding lexical_refusal
-  lexical_more clear = sym (ap lexical_refusal is ∙ ap (λ (o : Option Refused). option_or o (lexical_refusal more)) (sym (ap next_refusal is) ∙ clear))
+  lexical_first r fault = sym (ap lexical_refusal is ∙ ap (λ (o : Option Refused). option_or o (lexical_refusal more)) (sym fault))
+
+  -- at no fault
+  pub lexical_more : lexeme_refusal t ≡ None → lexical_refusal more ≡ lexical_refusal rest
+  unfolding lexical_refusal
+  lexical_more clear = sym (ap lexical_refusal is ∙ ap (λ (o : Option Refused). option_or o (lexical_refusal more)) clear)
 
   pub shape_more : (s : Shape) → shape_of (shape_after s t.class) more ≡ shape_of s rest
   shape_more s = sym (ap (shape_of s) is)

@@ -11,16 +11,16 @@ between low high b = nat_le low b && nat_le b high
 abbrev pub class_of : ℕ → Class
 class_of b = cond (b == 40) Opening (cond (b == 41) Closing (cond (b == 32) Space (cond (b == 10) LineFeed (cond (between 48 57 b) Digit (cond (between 97 122 b) Letter Other)))))
 
--- The digit that stands for a class in the table.
-abbrev pub digit_of : Class → ℕ
-digit_of Opening = 48
-digit_of Closing = 49
-digit_of Space = 50
-digit_of LineFeed = 51
-digit_of Digit = 52
-digit_of Letter = 53
-digit_of Other = 54
+-- The place of a class in the order of its cases, by which classes are told apart.
+abbrev pub order_of : Class → ℕ
+order_of Opening = 0
+order_of Closing = 1
+order_of Space = 2
+order_of LineFeed = 3
+order_of Digit = 4
+order_of Letter = 5
+order_of Other = 6
 
 -- Whether a byte is of a class.
 abbrev pub of_class : Class → ℕ → Bool
-of_class k b = digit_of (class_of b) == digit_of k
+of_class k b = order_of (class_of b) == order_of k

@@ -1,5 +1,5 @@
 -- The lines of a text.
-use Rattle.std.specs.Prelude.{ℕ, Bool, true, false, cond, not, List, [], ◌∷◌}
+use Rattle.std.specs.Prelude.{ℕ, Bool, true, false, cond, List, [], ◌∷◌}
 use Rattle.text.specs.declared.class.Class.TheVariants.{LineFeed}
 use Rattle.text.specs.Classes.{of_class}
 
@@ -17,7 +17,3 @@ prefixed b (l ∷ ls) = record { bytes = b ∷ l.bytes; ended = l.ended } ∷ ls
 unfoldable pub lines_of : List ℕ → List Line
 lines_of [] = []
 lines_of (b ∷ bs) = cond (of_class LineFeed b) (record { bytes = []; ended = true } ∷ lines_of bs) (prefixed b (lines_of bs))
-
--- Whether a byte is within a line.
-abbrev pub in_line : ℕ → Bool
-in_line b = not (of_class LineFeed b)

@@ -1,5 +1,6 @@
 -- What a refusal of a text tells.
-use Rattle.std.specs.Prelude.{ℕ, Option, Result}
+use Rattle.std.specs.Prelude.{ℕ, List, ◌++◌, codes, Option, Result}
+use Rattle.std.specs.Fmt.{decimal}
 use Rattle.std.specs.Option.{option_map}
 use Rattle.std.specs.Result.{result_err}
 use Rattle.text.specs.declared.place.Place.{Place}
@@ -37,3 +38,11 @@ tells r = refused_at r.place (number_of r.cause)
 -- What a result tells: nothing where it is no refusal.
 abbrev pub told : {T : Type 0} → Result T TextRefusal → Option Refused
 told r = option_map tells (result_err r)
+
+-- How a place is written.
+abbrev pub place_text : Place → List ℕ
+place_text p = codes "line " ++ decimal p.line ++ codes ", byte " ++ decimal p.offset
+
+-- How a refusal is written: its number, and its place.
+abbrev pub refusal_text : Refused → List ℕ
+refusal_text r = codes "refused " ++ decimal r.number ++ codes " at " ++ place_text r.place

@@ -1,7 +1,8 @@
 -- The tokens of a line.
-use Rattle.std.specs.Prelude.{ℕ, suc, ◌+◌, ◌-◌, ◌*◌, Bool, true, false, cond, ◌&&◌, ◌||◌, List, [], ◌∷◌, length, Some, None, fold, Option, ◌==◌, nat_lt}
+use Rattle.std.specs.Prelude.{ℕ, suc, ◌+◌, ◌-◌, ◌*◌, Bool, true, false, cond, ◌&&◌, ◌||◌, List, [], ◌∷◌, length, Some, None, fold, Option, ◌==◌, nat_lt, if◌then◌else◌}
 use Rattle.std.specs.Option.{option_map, option_or}
 use Rattle.std.specs.Bool.{then_some}
+use Rattle.std.specs.List.{prefix_len}
 use Rattle.text.specs.declared.class.Class.{Class}
 use Rattle.text.specs.declared.class.Class.TheVariants.{Opening, Closing, Space, LineFeed, Digit, Letter, Other}
 use Rattle.text.specs.declared.place.Place.{Place}
@@ -23,6 +24,10 @@ go_together LineFeed = false
 go_together Digit = true
 go_together Letter = true
 go_together Other = false
+
+-- How many bytes are in the first of some tokens, which begins with a byte of class k.
+abbrev pub lexeme_length : Class → List ℕ → ℕ
+lexeme_length k bs = if go_together k then prefix_len (of_class k) bs else 1
 
 -- Whether a byte begins a token that goes on with the next byte.
 abbrev pub goes_on : ℕ → List ℕ → Bool

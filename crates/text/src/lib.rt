@@ -5,6 +5,6 @@ pub mod class;
 mod line;
 mod lines;
 pub mod place;
-mod scan;
 mod shape;
 pub mod token;
+mod tokens;

@@ -1,34 +1,32 @@
 // The lines of a text.
-ghost use Rattle.std.specs.Prelude.{◌≡◌, ◌+◌, ◌<◌, ◌≤◌, length, if◌then◌else◌, nat_lt};
+ghost use Rattle.std.specs.Prelude.{◌≡◌, ◌<◌, length};
 ghost use Rattle.text.specs.Reading.{FirstLine};
 
-use crate::scan::{InLine, part, past};
+use crate::class::{Class, class_of};
 
-// A line of a text: its bytes, whether a line feed ends it, and where the next line begins.
-#[derive(Clone, Copy)]
+// A line of a text: its bytes, and what follows the line feed that ends it, if one does.
+#[derive(Clone, Copy, Debug)]
 pub(crate) struct Line<'a> {
     pub(crate) bytes: &'a [u8],
-    pub(crate) ended: bool,
-    pub(crate) next: usize,
+    pub(crate) after: Option<&'a [u8]>,
 }
 
-// Where a line that ends at `end` is followed by the next, in a text of a given length.
-fn after_end(end: usize, length: usize) -> usize
-    requires { end ≤ length }
-    ensures { result ≡ (if nat_lt end length then end + 1 else end) }
+// The first line of a text.
+pub(crate) fn first_line(text: &[u8]) -> Line<'_>
+    requires { 0 < length text.now }
+    ensures { FirstLine text.now result }
 {
-    if end < length { end + 1 } else { end }
-}
-
-// The line that begins at `from`.
-pub(crate) fn line_at<'a>(text: &'a [u8], from: usize) -> Line<'a>
-    requires { from < length text.now }
-    ensures { FirstLine text.now from result }
-{
-    let end = past(&InLine, text, from);
-    Line {
-        bytes: part(text, from, end),
-        ended: end < text.len(),
-        next: after_end(end, text.len()),
+    let end = text
+        .iter()
+        .position(|&byte| class_of(byte) == Class::LineFeed);
+    match end {
+        Some(end) => Line {
+            bytes: &text[..end],
+            after: Some(&text[end + 1..]),
+        },
+        None => Line {
+            bytes: text,
+            after: None,
+        },
     }
 }

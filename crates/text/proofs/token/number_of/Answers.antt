@@ -1,22 +1,14 @@
-use Rattle.std.proofs.Common.{◌≡◌, ℕ, ◌+◌, ◌-◌, ◌*◌, min, List, get_or, take, sym, ap, ◌∙◌, arith}
-use Rattle.text.specs.Tokens.{numeral}
+use Rattle.std.proofs.Common.{sym, ap, ◌∙◌, arith}
 use Rattle.std.proofs.lemmas.List.{take_all}
-use Rattle.std.proofs.lemmas.List.Sums.{fold_more}
+use Rattle.text.specs.Tokens.{numeral}
+use Rattle.text.proofs.Numerals.{too_large, not_too_large}
 use Rattle.text.proofs.token.number_of.Goals as goal
 
--- a number held at the first that is too large, and one more digit
-cap-more : (n d v : ℕ) → v ≡ min n 65536 → min (10 * v + d) 65536 ≡ min (10 * n + d) 65536
-cap-more n d v e = omega arith
+pub returns-in_err-checked_mul : goal.returns-in_err-checked_mul
+returns-in_err-checked_mul c = c.from_residual.ensures ∙ sym (too_large c.args.digits.now c.loop-digit.digit-index c.loop-digit-test.true (omega (arith, c.in_err-checked_mul.ensures {u = tt})))
 
-pub loop-digit-preserved : goal.loop-digit-preserved
-loop-digit-preserved c =
-    let xs = c.args.digits.now in
-    let i = c.loop-digit.digit-index in
-    let e = fold_more (λ (v b : ℕ). 10 * v + (b - 48)) 0 xs i 0 (omega arith) in
-    let h = c.loop-digit.invariant in
-    let more = cap-more (numeral (take i xs)) (get_or xs i 0 - 48) c.loop-digit.value h.1 in
-    let d : c.from.result ≡ get_or xs i 0 - 48 = c.from.ensures ∙ c.saturating_sub.ensures in
-    (omega arith, c.min-value.ensures ∙ ap (λ (m : ℕ). min (10 * c.loop-digit.value + m) 65536) d ∙ more ∙ ap (λ (m : ℕ). min m 65536) (sym e))
+pub returns-in_err-value : goal.returns-in_err-value
+returns-in_err-value c = c.from_residual-in_err-value.ensures ∙ sym (too_large c.args.digits.now c.loop-digit.digit-index c.loop-digit-test.true (omega (arith, c.in_err-value.ensures {u = tt}, c.in_ok-checked_mul.ensures {u = tt})))
 
 pub returns : goal.returns
-returns c = c.loop-digit.invariant.1 ∙ ap (λ (xs : List ℕ). min (numeral xs) 65536) (take_all _ c.args.digits.now c.loop-digit-test.false)
+returns c = sym (not_too_large c.args.digits.now c.loop-digit.value c.loop-digit.invariant.0 (c.loop-digit.invariant.1 ∙ ap numeral (take_all _ c.args.digits.now c.loop-digit-test.false)))
