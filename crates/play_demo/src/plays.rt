@@ -16,30 +16,27 @@ fn show_standing(rt: &HostRuntime, standing: Standing) -> io::Result<()> {
     }
 }
 
-fn show_call(rt: &HostRuntime, call: Call) -> io::Result<()> {
-    match call {
-        Call::Go => print!(rt; "  go: "),
-        Call::Reply(k) => print!(rt; "  reply {k}: "),
-    }
-}
-
 fn show_answer(rt: &HostRuntime, call: Call, answer: Answer) -> io::Result<()> {
-    show_call(rt, call)?;
+    match call {
+        Call::Go => print!(rt; "  go: ")?,
+        Call::Reply(k) => print!(rt; "  reply {k}: ")?,
+    }
     match answer {
         Ok(standing) => show_standing(rt, standing),
-        Err(refusal) => {
-            let number = refusal.number();
-            println!(rt; "refused {number}")
-        }
+        Err(refusal) => println!(rt; "{refusal}"),
     }
 }
 
 fn show_record(rt: &HostRuntime, record: Record) -> io::Result<()> {
-    let house = record.house;
-    let at = record.position;
-    let steps = record.steps;
-    let entered = record.entered;
-    println!(rt; "  record: house {house:?}, at {at}, {steps} steps, {entered} to the guest's kind")
+    let Record {
+        house,
+        position,
+        steps,
+        entered,
+    } = record;
+    println!(rt;
+        "  record: house {house:?}, at {position}, {steps} steps, {entered} to the guest's kind"
+    )
 }
 
 // Five calls from position 1. The last does not come on the guest's turn, so it is not made.
@@ -55,21 +52,13 @@ pub(crate) fn show_play<G: Game>(
         Call::Reply(5),
         Call::Go,
     ];
-    let blank: Answer = Err(CallRefusal::Mismatch);
-    let mut answers = [blank; 5];
-    match play_calls(game, sheet, 1, &calls, &mut answers) {
-        Ok(played) => {
-            print!(rt; "  set out: ")?;
-            show_standing(rt, played.first)?;
-            for (call, answer) in calls.iter().zip(answers.iter()).take(played.made) {
-                show_answer(rt, *call, *answer)?;
-            }
-            show_record(rt, played.at_end)?;
-        }
-        Err(refusal) => {
-            let number = refusal.number();
-            println!(rt; "  refused {number}")?;
-        }
+    let mut answers = [Err(CallRefusal::Mismatch); 5];
+    let played = play_calls(game, sheet, 1, &calls, &mut answers)?;
+    print!(rt; "  set out: ")?;
+    show_standing(rt, played.first)?;
+    for (call, answer) in calls.iter().zip(answers.iter()).take(played.made) {
+        show_answer(rt, *call, *answer)?;
     }
+    show_record(rt, played.at_end)?;
     Ok(())
 }

@@ -2,11 +2,9 @@
 // steps, and with another game or sheet.
 #![tactic(auto)]
 
-mod numbers;
 mod parts;
 mod play_cases;
 mod play_limits;
-mod tally;
 
 use play_cases::try_plays;
 use play_limits::try_limits;

@@ -5,12 +5,10 @@ mod example;
 mod session;
 mod show;
 
-use anyhow::anyhow;
-use example::{blank_sheet, example_game};
-use game::arena::Game;
-use session::play_from;
+use example::example_game;
+use examples::sheet::coloured;
+use session::Table;
 use show::show_game;
-use solver::colour::colour;
 
 fn main(rt: HostRuntime) -> anyhow::Result<()> {
     rehearse(&rt)
@@ -18,11 +16,13 @@ fn main(rt: HostRuntime) -> anyhow::Result<()> {
 
 fn rehearse(rt: &HostRuntime) -> anyhow::Result<()> {
     let game = example_game(rt.alloc())?;
-    let mut sheet = blank_sheet(rt.alloc(), game.count())?;
-    if colour(&game, &mut sheet).is_err() {
-        return Err(anyhow!("the colouring refuses the sheet"));
-    }
+    let sheet = coloured(rt.alloc(), &game)?;
     show_game(rt, &game)?;
     println!(rt; "Reply with the number of a move, or with 'end' to stop there.")?;
-    play_from(rt, &game, &sheet, 0)
+    let table = Table {
+        rt,
+        game: &game,
+        sheet: &sheet,
+    };
+    table.play_from(0)
 }

@@ -1,49 +1,63 @@
-// A game's colouring against the one that another checker gives.
+// A game's colouring against the one that another checker gives, and that of the swapped game too.
+use cases::tally::Tally;
+use examples::parts::entry;
 use game::arena::Game;
 use game::sheet::Entry;
+use game::side::Side;
+use games::swapped::Swapped;
 use solver::colour::colour;
 use std::alloc::AllocError;
 
+// The tallies of games' colourings, and of their swapped games'.
+#[derive(Drop)]
+pub(crate) struct Colourings {
+    pub(crate) games: Tally,
+    pub(crate) swapped: Tally,
+}
+
+impl Colourings {
+    // Notes whether a game has the expected sheet as its colouring, and the swapped game that sheet with
+    // every colour exchanged, both in as many rounds.
+    pub(crate) fn note<G: Game + Drop>(
+        &mut self,
+        rt: &HostRuntime,
+        game: G,
+        rounds: u16,
+        expected: &[Entry],
+    ) -> anyhow::Result<()> {
+        let same = is_coloured(rt, &game, rounds, expected)?;
+        self.games.note(rt, same)?;
+        let opposite = exchanged(rt, expected)?;
+        let same = is_coloured(rt, &Swapped::new(game), rounds, &opposite)?;
+        self.swapped.note(rt, same)?;
+        Ok(())
+    }
+}
+
 // Whether the colouring of a game is the expected one, in as many rounds. The slice holds nonsense before.
-pub(crate) fn is_coloured<G: Game>(
+fn is_coloured<G: Game>(
     rt: &HostRuntime,
     game: &G,
     rounds: u16,
     expected: &[Entry],
 ) -> Result<bool, AllocError> {
-    let nonsense = Entry {
-        colour: 7,
-        choice: 65535,
-        rank: 65535,
-    };
+    let nonsense = entry(7, 65535, 65535);
     let mut sheet = vec![in rt.alloc(); nonsense; expected.len()]?;
-    match colour(game, &mut sheet) {
-        Ok(answer) => Ok(answer == rounds as usize && same_entries(&sheet, expected)),
-        Err(_) => Ok(false),
-    }
+    Ok(colour(game, &mut sheet) == Ok(rounds as usize) && sheet.as_slice() == expected)
 }
 
-fn same_entries(sheet: &[Entry], expected: &[Entry]) -> bool {
-    if sheet.len() != expected.len() {
-        return false;
-    }
-    for (entry, other) in sheet.iter().zip(expected.iter()) {
-        if entry != other {
-            return false;
-        }
-    }
-    true
+// The number of the other side; one that is no side's stays.
+fn opposite(colour: u8) -> u8 {
+    Side::try_from(colour).map_or(colour, |side| u8::from(side.other()))
 }
 
 // A sheet with every colour exchanged.
-pub(crate) fn exchanged(rt: &HostRuntime, sheet: &[Entry]) -> Result<Vec<Entry>, AllocError> {
-    let mut exchanged = Vec::new(rt.alloc());
-    for entry in sheet {
-        exchanged.push(Entry {
-            colour: if entry.colour == 0 { 1 } else { 0 },
-            choice: entry.choice,
-            rank: entry.rank,
-        })?;
-    }
-    Ok(exchanged)
+fn exchanged(rt: &HostRuntime, sheet: &[Entry]) -> Result<Vec<Entry>, AllocError> {
+    sheet
+        .iter()
+        .map(|e| Entry {
+            colour: opposite(e.colour),
+            ..*e
+        })
+        .collect(rt.alloc())
 }

@@ -2,11 +2,9 @@
 #![tactic(auto)]
 
 mod coloured;
-mod numbers;
 mod pair_cases;
 mod parts;
 mod row_cases;
-mod tally;
 mod worked;
 
 use pair_cases::try_pairs;

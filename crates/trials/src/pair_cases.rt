@@ -3,96 +3,77 @@
 // A case is: the head's owner; the two lists of the first game and the position in it; the same of the
 // second; what making the pair answers; and, where it is a pair, the rounds of its colouring, the
 // length of its sheet and the sheet.
-use crate::coloured::{exchanged, is_coloured};
-use crate::numbers::Numbers;
-use crate::parts::{refused, take_answer, take_lists, take_sheet};
-use crate::tally::Tally;
-use anyhow::anyhow;
-use game::side::Side;
+use crate::coloured::Colourings;
+use crate::parts::{Told, read_numbers, take_answer, take_sheet};
+use cases::numbers::Numbers;
+use cases::parts::{take_game, take_side};
+use cases::tally::Tally;
+use cases::trying::Cases;
 use games::pair::Pair;
 use games::rows::Rows;
-use games::swapped::Swapped;
 
-// The tallies of pairs.
+// What is left of a file of pairs, and the tallies of its cases.
 #[derive(Drop)]
-struct Tallies {
+struct PairCases<'a> {
+    rt: &'a HostRuntime,
+    numbers: Numbers,
     pairs: Tally,
-    colourings: Tally,
-    swapped: Tally,
+    colourings: Colourings,
 }
 
-fn take_side(numbers: &mut Numbers) -> anyhow::Result<Side> {
-    let number = u8::try_from(numbers.take()?)?;
-    match Side::from_number(number) {
-        Some(side) => Ok(side),
-        None => Err(anyhow!("no side")),
+impl<'a> PairCases<'a> {
+    fn try_pair(&mut self, pair: Pair<Rows, Rows>) -> anyhow::Result<()> {
+        let rounds = self.numbers.take()?;
+        let len = self.numbers.take()?;
+        let sheet = take_sheet(self.rt, &mut self.numbers, len)?;
+        self.colourings.note(self.rt, pair, rounds, &sheet)
     }
 }
 
-fn take_rows(rt: &HostRuntime, numbers: &mut Numbers) -> anyhow::Result<Rows> {
-    let (rows, targets) = take_lists(rt, numbers)?;
-    match Rows::new(rows, targets) {
-        Ok(game) => Ok(game),
-        Err(_) => Err(anyhow!("the rows make no game")),
+impl<'a> Cases for PairCases<'a> {
+    type Fault = anyhow::Error;
+
+    ghost left = { λ cases. cases.numbers };
+
+    fn is_done(&self) -> bool {
+        self.numbers.is_done()
     }
-}
 
-fn try_pair(
-    rt: &HostRuntime,
-    numbers: &mut Numbers,
-    pair: Pair<Rows, Rows>,
-    tallies: &mut Tallies,
-) -> anyhow::Result<()> {
-    let rounds = numbers.take()?;
-    let len = numbers.take()?;
-    let sheet = take_sheet(rt, numbers, len)?;
-    tallies
-        .colourings
-        .note(rt, is_coloured(rt, &pair, rounds, &sheet)?)?;
-    let swapped = Swapped::new(pair);
-    let opposite = exchanged(rt, &sheet)?;
-    tallies
-        .swapped
-        .note(rt, is_coloured(rt, &swapped, rounds, &opposite)?)?;
-    Ok(())
-}
-
-fn try_case(rt: &HostRuntime, numbers: &mut Numbers, tallies: &mut Tallies) -> anyhow::Result<()> {
-    let owner = take_side(numbers)?;
-    let first = take_rows(rt, numbers)?;
-    let p = numbers.take()? as usize;
-    let second = take_rows(rt, numbers)?;
-    let q = numbers.take()? as usize;
-    let expected = take_answer(numbers)?;
-    match Pair::new(owner, first, p, second, q) {
-        Ok(pair) => {
-            tallies.pairs.note(rt, expected.number.is_none())?;
-            try_pair(rt, numbers, pair, tallies)
-        }
-        Err(e) => {
-            tallies
-                .pairs
-                .note(rt, refused(e.fault.number(), None)? == expected)?;
-            Ok(())
+    fn try_case(&mut self) -> anyhow::Result<()> {
+        let owner = take_side(&mut self.numbers)?;
+        let first = take_game(self.rt.alloc(), &mut self.numbers)?;
+        let p = self.numbers.take()? as usize;
+        let second = take_game(self.rt.alloc(), &mut self.numbers)?;
+        let q = self.numbers.take()? as usize;
+        let expected = take_answer(&mut self.numbers)?;
+        match Pair::new(owner, first, p, second, q) {
+            Ok(pair) => {
+                self.pairs.note(self.rt, expected.is_ok())?;
+                self.try_pair(pair)
+            }
+            Err(e) => {
+                let answer = Told::new(e.refusal, None);
+                self.pairs.note(self.rt, expected == Err(answer))?;
+                Ok(())
+            }
         }
     }
 }
 
 // Tries every case of a file, and prints how many there were and which differ.
 pub(crate) fn try_pairs(rt: &HostRuntime, path: &str) -> anyhow::Result<()> {
-    let mut numbers = Numbers::read(rt, path)?;
-    let mut tallies = Tallies {
+    let mut cases = PairCases {
+        rt,
+        numbers: read_numbers(rt, path)?,
         pairs: Tally::new("pairs"),
-        colourings: Tally::new("colourings of pairs"),
-        swapped: Tally::new("swapped pairs"),
+        colourings: Colourings {
+            games: Tally::new("colourings of pairs"),
+            swapped: Tally::new("swapped pairs"),
+        },
     };
-    for _ in 0..numbers.len() {
-        if !numbers.is_done() {
-            try_case(rt, &mut numbers, &mut tallies)?;
-        }
-    }
-    tallies.pairs.show(rt)?;
-    tallies.colourings.show(rt)?;
-    tallies.swapped.show(rt)?;
+    cases.try_all()?;
+    println!(rt; "{}", cases.pairs)?;
+    println!(rt; "{}", cases.colourings.games)?;
+    println!(rt; "{}", cases.colourings.swapped)?;
     Ok(())
 }

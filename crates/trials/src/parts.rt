@@ -1,70 +1,53 @@
 // The parts of a case, taken from the front of a file's numbers.
-use crate::numbers::Numbers;
+use cases::numbers::Numbers;
+use game::refusal::Numbered;
 use game::sheet::Entry;
-use games::row::Row;
+use std::fs;
 
-// An answer as it stands in a file: how many numbers, and these. None for a success; else the number
-// of the refusal, and the value that it carries, if it carries one.
+// What a refusal tells, as it stands in a file: its number, and the position or row that it names, if it
+// names one.
 #[derive(Clone, Copy, PartialEq, Eq)]
-pub(crate) struct Answer {
-    pub(crate) number: Option<u16>,
-    pub(crate) value: Option<u16>,
+pub(crate) struct Told {
+    number: u8,
+    place: Option<usize>,
 }
 
-pub(crate) fn take_answer(numbers: &mut Numbers) -> anyhow::Result<Answer> {
+impl Told {
+    // What a refusal tells, which names this place.
+    pub(crate) fn new<E: Numbered + Copy>(refusal: E, place: Option<usize>) -> Told {
+        Told {
+            number: refusal.number(),
+            place,
+        }
+    }
+}
+
+// The numbers of a file, apart by white space. It stands in both programs that try cases: a public function of
+// a library has to state what it answers, and nothing can be stated of a file.
+pub(crate) fn read_numbers(rt: &HostRuntime, path: &str) -> anyhow::Result<Numbers> {
+    let text = fs::read_to_string(rt, path)?;
+    let numbers = text
+        .as_str()
+        .split_whitespace()
+        .map(|word| -> anyhow::Result<u16> { Ok(word.parse()?) })
+        .try_collect(rt.alloc())?;
+    Ok(Numbers::new(numbers))
+}
+
+// An answer: how many numbers, and these. None for a success; else what the refusal tells.
+pub(crate) fn take_answer(numbers: &mut Numbers) -> anyhow::Result<Result<(), Told>> {
     let count = numbers.take()?;
-    let number = if count >= 1 {
-        Some(numbers.take()?)
-    } else {
-        None
-    };
-    let value = if count >= 2 {
-        Some(numbers.take()?)
-    } else {
-        None
-    };
-    Ok(Answer { number, value })
-}
-
-// A refusal as an answer.
-pub(crate) fn refused(number: u8, value: Option<usize>) -> anyhow::Result<Answer> {
-    let value = match value {
-        Some(v) => Some(u16::try_from(v)?),
-        None => None,
-    };
-    Ok(Answer {
-        number: Some(u16::from(number)),
-        value,
-    })
-}
-
-fn take_row(numbers: &mut Numbers) -> anyhow::Result<Row> {
-    Ok(Row {
-        owner: numbers.take()?,
-        level: numbers.take()?,
-        kind: numbers.take()?,
-        first: numbers.take()?,
-        count: numbers.take()?,
-    })
-}
-
-// Two lists: how many rows and how many targets there are, the rows, five numbers each (owner, level,
-// kind, first, count), and the targets.
-pub(crate) fn take_lists(
-    rt: &HostRuntime,
-    numbers: &mut Numbers,
-) -> anyhow::Result<(Vec<Row>, Vec<u16>)> {
-    let row_count = numbers.take()?;
-    let target_count = numbers.take()?;
-    let mut rows = Vec::new(rt.alloc());
-    for _ in 0..row_count {
-        rows.push(take_row(numbers)?)?;
+    if count == 0 {
+        return Ok(Ok(()));
     }
-    let mut targets = Vec::new(rt.alloc());
-    for _ in 0..target_count {
-        targets.push(numbers.take()?)?;
-    }
-    Ok((rows, targets))
+    Ok(Err(Told {
+        number: u8::try_from(numbers.take()?)?,
+        place: if count == 1 {
+            None
+        } else {
+            Some(numbers.take()? as usize)
+        },
+    }))
 }
 
 fn take_entry(numbers: &mut Numbers) -> anyhow::Result<Entry> {
@@ -81,9 +64,7 @@ pub(crate) fn take_sheet(
     numbers: &mut Numbers,
     len: u16,
 ) -> anyhow::Result<Vec<Entry>> {
-    let mut sheet = Vec::new(rt.alloc());
-    for _ in 0..len {
-        sheet.push(take_entry(numbers)?)?;
-    }
-    Ok(sheet)
+    (0..len)
+        .map(|_| take_entry(numbers))
+        .try_collect(rt.alloc())
 }
