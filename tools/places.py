@@ -15,6 +15,20 @@ import sys
 ITEM = re.compile(r"^( *)(?:pub(?:\([a-z]+\))? )?(?:final )?(fn|struct|enum|trait|impl)\b(.*)$")
 NUMBER = r"(?:Vec<)?&?\[?(?:u8|u16|u32|usize)\b"
 
+# What is looked for line by line.
+LINES = [
+    (label, re.compile(pattern))
+    for label, pattern in (
+        ("1 a number for a side, a kind or a refusal", r"^(?!.*fn ).*\b(?:colour|owner|kind|refusals?|class)s?: " + NUMBER),
+        ("3 a loop over an index or by hand", r"^\s*(?:while|loop)\b|^\s*for \w+ in .*\.\."),
+        ("4 an impl that a derive writes", r"impl.* (?:PartialEq|Eq|PartialOrd|Ord|Clone|Copy|Default|Debug)\b.* for "),
+        ("4 a conversion or an equality by hand", r"fn (?:from_|to_|number|same_|equals?)\w*\b"),
+        ("4 a refusal printed by hand", r"let number = .*number\(\)"),
+        ("4 a case passed on by hand", r"^\s*None => None,?$|^\s*Some\((\w+)\) => Some\(\1\),?$|Err\(_\) => Err\("),
+        ("7 a function in a table, a dyn", r"\bfn\(|dyn "),
+    )
+]
+
 
 def items(path):
     """The items of a file: kind, head, first line, text. Methods are items too."""
@@ -53,20 +67,9 @@ def places(root):
             where = f"{name}:{number}: {line.strip()}"
             if line.strip().startswith(("//", "ghost use")):
                 continue
-            if re.search(r"\b(?:colour|owner|kind|refusals?|class)s?: " + NUMBER, line) and "fn " not in line:
-                found["1 a number for a side, a kind or a refusal"].append(where)
-            if re.search(r"^\s*(?:while|loop)\b|^\s*for \w+ in .*\.\.", line):
-                found["3 a loop over an index or by hand"].append(where)
-            if re.search(r"impl.* (?:PartialEq|Eq|PartialOrd|Ord|Clone|Copy|Default|Debug)\b.* for ", line):
-                found["4 an impl that a derive writes"].append(where)
-            if re.search(r"fn (?:from_|to_|number|same_|equals?)\w*\b", line):
-                found["4 a conversion or an equality by hand"].append(where)
-            if re.search(r"let number = .*number\(\)", line):
-                found["4 a refusal printed by hand"].append(where)
-            if re.search(r"^\s*None => None,?$|^\s*Some\((\w+)\) => Some\(\1\),?$|Err\(_\) => Err\(", line):
-                found["4 a case passed on by hand"].append(where)
-            if re.search(r"\bfn\(|dyn ", line):
-                found["7 a function in a table, a dyn"].append(where)
+            for label, pattern in LINES:
+                if pattern.search(line):
+                    found[label].append(where)
         for kind, head, at, text in items(path):
             where = f"{name}:{at}: {kind}{head}"
             if kind == "fn":
