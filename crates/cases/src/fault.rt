@@ -1,6 +1,6 @@
 // Why a case cannot be taken from the numbers of a file.
 ghost use Rattle.std.specs.Prelude.{◌≡◌, Some};
-ghost use Rattle.cases.specs.Faults.{case_fault_text};
+ghost use Rattle.cases.specs.Faults.{case_fault_text, brief_text};
 ghost use Rattle.cases.specs.declared.fault.CaseFault.TheVariants.{OutOfMemory, NoGame};
 
 use games::row::{RowsFault, RowsRefused};
@@ -38,6 +38,29 @@ impl fmt::Display for CaseFault {
 }
 
 impl Error for CaseFault {}
+
+// A fault as the programs that try cases tell it: in brief, without what it carries.
+#[derive(Clone, Copy, PartialEq, Eq, Debug)]
+pub struct Brief(pub CaseFault);
+
+impl fmt::Display for Brief {
+    ghost output = { λ brief. Some (brief_text brief.0) };
+
+    fn fmt<W: fmt::Write>(&self, f: &mut fmt::Formatter<W>) -> fmt::Result {
+        f.write_str(match self.0 {
+            CaseFault::Ended => "the file ends within a case",
+            CaseFault::OutOfMemory => "memory allocation failed",
+            CaseFault::NoSide(number) if number > 255 => {
+                "out of range integral type conversion attempted"
+            }
+            CaseFault::NoSide(_) => "no side",
+            CaseFault::NoGame(_) => "the rows make no game",
+            CaseFault::TooMany => "more cases than can be counted",
+        })
+    }
+}
+
+impl Error for Brief {}
 
 impl<T: Drop> From<AllocFailed<T>> for CaseFault {
     ghost from_gives = { λ _ e. e ≡ OutOfMemory };

@@ -1,5 +1,6 @@
 // The parts of a case, taken from the front of a file's numbers.
 use anyhow::bail;
+use cases::fault::Brief;
 use cases::numbers::Numbers;
 use cases::parts::take_side;
 use plain::call::Call;
@@ -14,7 +15,7 @@ use std::fs;
 pub(crate) struct PlayCase {
     pub(crate) start: usize,
     pub(crate) calls: Vec<Call>,
-    pub(crate) refusals: Vec<Option<u8>>,
+    pub(crate) refusals: Vec<Option<u16>>,
     pub(crate) record: Record,
     pub(crate) turn: Turn,
 }
@@ -37,13 +38,13 @@ fn take_turn(numbers: &mut Numbers) -> anyhow::Result<Turn> {
         0 => Ok(Turn::House),
         1 => Ok(Turn::Guest),
         2 => Ok(Turn::Ended),
-        number => bail!("no turn has number {number}"),
+        _ => bail!("no turn"),
     }
 }
 
 fn take_record(numbers: &mut Numbers) -> anyhow::Result<Record> {
     Ok(Record {
-        house: take_side(numbers)?,
+        house: take_side(numbers).map_err(Brief)?,
         position: numbers.take()? as usize,
         steps: numbers.take()?,
         entered: numbers.take()?,
@@ -57,10 +58,10 @@ fn take_call(numbers: &mut Numbers) -> anyhow::Result<Call> {
     })
 }
 
-fn take_refusal(numbers: &mut Numbers) -> anyhow::Result<Option<u8>> {
+fn take_refusal(numbers: &mut Numbers) -> anyhow::Result<Option<u16>> {
     Ok(match numbers.take()? {
         0 => None,
-        number => Some(u8::try_from(number)?),
+        number => Some(number),
     })
 }
 

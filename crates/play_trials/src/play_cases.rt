@@ -6,6 +6,7 @@
 // the number of its refusal), the record (house, position, steps, entered), and how it stands at the end
 // (0 the house's turn, 1 the guest's, 2 ended).
 use crate::parts::{PlayCase, read_numbers, take_play};
+use cases::fault::Brief;
 use cases::numbers::Numbers;
 use cases::parts::take_game;
 use cases::tally::Tally;
@@ -29,11 +30,11 @@ struct PlayCases<'a> {
 }
 
 // Whether each answer is the expected one, by the refusal's number.
-fn same_refusals(answers: &[Answer], expected: &[Option<u8>]) -> bool {
+fn same_refusals(answers: &[Answer], expected: &[Option<u16>]) -> bool {
     answers.len() == expected.len()
         && answers.iter().zip(expected.iter()).all(|(answer, number)| answer
             .err()
-            .map(|refusal| refusal.number())
+            .map(|refusal| u16::from(refusal.number()))
             == *number)
 }
 
@@ -106,7 +107,7 @@ impl<'a> Cases for PlayCases<'a> {
 
     fn try_case(&mut self) -> anyhow::Result<()> {
         let rt = self.rt;
-        let game = take_game(rt.alloc(), &mut self.numbers)?;
+        let game = take_game(rt.alloc(), &mut self.numbers).map_err(Brief)?;
         let cases = self.take_plays()?;
         for case in &cases {
             let same = is_played(rt, &game, case, case.record)?;

@@ -16,17 +16,27 @@ pub(crate) struct Colourings {
 }
 
 impl Colourings {
-    // Notes whether a game has the expected sheet as its colouring, and the swapped game that sheet with
-    // every colour exchanged, both in as many rounds.
-    pub(crate) fn note<G: Game + Drop>(
+    // Notes whether a game has the expected sheet as its colouring, in as many rounds.
+    pub(crate) fn note<G: Game>(
+        &mut self,
+        rt: &HostRuntime,
+        game: &G,
+        rounds: u16,
+        expected: &[Entry],
+    ) -> anyhow::Result<()> {
+        let same = is_coloured(rt, game, rounds, expected)?;
+        self.games.note(rt, same)?;
+        Ok(())
+    }
+
+    // Notes whether the swapped game has that sheet with every colour exchanged, in as many rounds.
+    pub(crate) fn note_swapped<G: Game + Drop>(
         &mut self,
         rt: &HostRuntime,
         game: G,
         rounds: u16,
         expected: &[Entry],
     ) -> anyhow::Result<()> {
-        let same = is_coloured(rt, &game, rounds, expected)?;
-        self.games.note(rt, same)?;
         let opposite = exchanged(rt, expected)?;
         let same = is_coloured(rt, &Swapped::new(game), rounds, &opposite)?;
         self.swapped.note(rt, same)?;
@@ -46,9 +56,9 @@ fn is_coloured<G: Game>(
     Ok(colour(game, &mut sheet) == Ok(rounds as usize) && sheet.as_slice() == expected)
 }
 
-// The number of the other side; one that is no side's stays.
+// The number of the other side; Green's for one that is no side's.
 fn opposite(colour: u8) -> u8 {
-    Side::try_from(colour).map_or(colour, |side| u8::from(side.other()))
+    u8::from(Side::try_from(colour).map_or(Side::Green, Side::other))
 }
 
 // A sheet with every colour exchanged.

@@ -5,6 +5,7 @@
 // length of its sheet and the sheet.
 use crate::coloured::Colourings;
 use crate::parts::{Told, read_numbers, take_answer, take_sheet};
+use cases::fault::Brief;
 use cases::numbers::Numbers;
 use cases::parts::{take_game, take_side};
 use cases::tally::Tally;
@@ -26,7 +27,8 @@ impl<'a> PairCases<'a> {
         let rounds = self.numbers.take()?;
         let len = self.numbers.take()?;
         let sheet = take_sheet(self.rt, &mut self.numbers, len)?;
-        self.colourings.note(self.rt, pair, rounds, &sheet)
+        self.colourings.note(self.rt, &pair, rounds, &sheet)?;
+        self.colourings.note_swapped(self.rt, pair, rounds, &sheet)
     }
 }
 
@@ -40,10 +42,10 @@ impl<'a> Cases for PairCases<'a> {
     }
 
     fn try_case(&mut self) -> anyhow::Result<()> {
-        let owner = take_side(&mut self.numbers)?;
-        let first = take_game(self.rt.alloc(), &mut self.numbers)?;
+        let owner = take_side(&mut self.numbers).map_err(Brief)?;
+        let first = take_game(self.rt.alloc(), &mut self.numbers).map_err(Brief)?;
         let p = self.numbers.take()? as usize;
-        let second = take_game(self.rt.alloc(), &mut self.numbers)?;
+        let second = take_game(self.rt.alloc(), &mut self.numbers).map_err(Brief)?;
         let q = self.numbers.take()? as usize;
         let expected = take_answer(&mut self.numbers)?;
         match Pair::new(owner, first, p, second, q) {

@@ -8,7 +8,7 @@ use std::fs;
 // names one.
 #[derive(Clone, Copy, PartialEq, Eq)]
 pub(crate) struct Told {
-    number: u8,
+    number: u16,
     place: Option<usize>,
 }
 
@@ -16,7 +16,7 @@ impl Told {
     // What a refusal tells, which names this place.
     pub(crate) fn new<E: Numbered + Copy>(refusal: E, place: Option<usize>) -> Told {
         Told {
-            number: refusal.number(),
+            number: u16::from(refusal.number()),
             place,
         }
     }
@@ -41,7 +41,7 @@ pub(crate) fn take_answer(numbers: &mut Numbers) -> anyhow::Result<Result<(), To
         return Ok(Ok(()));
     }
     Ok(Err(Told {
-        number: u8::try_from(numbers.take()?)?,
+        number: numbers.take()?,
         place: if count == 1 {
             None
         } else {

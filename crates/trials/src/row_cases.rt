@@ -5,6 +5,7 @@
 // and what the check answers.
 use crate::coloured::Colourings;
 use crate::parts::{Told, read_numbers, take_answer, take_sheet};
+use cases::fault::Brief;
 use cases::lists::take_lists;
 use cases::numbers::Numbers;
 use cases::tally::Tally;
@@ -40,9 +41,10 @@ impl<'a> RowCases<'a> {
         let rounds = self.numbers.take()?;
         let len = u16::try_from(game.count())?;
         let sheet = take_sheet(self.rt, &mut self.numbers, len)?;
+        self.colourings.note(self.rt, &game, rounds, &sheet)?;
         self.checks.note(self.rt, check(&game, &sheet).is_ok())?;
         self.try_checks(&game)?;
-        self.colourings.note(self.rt, game, rounds, &sheet)
+        self.colourings.note_swapped(self.rt, game, rounds, &sheet)
     }
 }
 
@@ -56,7 +58,7 @@ impl<'a> Cases for RowCases<'a> {
     }
 
     fn try_case(&mut self) -> anyhow::Result<()> {
-        let (rows, targets) = take_lists(self.rt.alloc(), &mut self.numbers)?;
+        let (rows, targets) = take_lists(self.rt.alloc(), &mut self.numbers).map_err(Brief)?;
         let expected = take_answer(&mut self.numbers)?;
         match Rows::new(rows, targets) {
             Ok(game) => {
