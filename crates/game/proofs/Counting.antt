@@ -1,5 +1,5 @@
 -- The moves that count, as a loop goes over them.
-use Rattle.std.proofs.Common.{◌≡◌, ℕ, zero, suc, ◌+◌, Bool, true, false, cond, List, Option, [], ◌∷◌, ◌++◌, map, sym, refl, ap, ◌∙◌, add-one, arith}
+use Rattle.std.proofs.Common.{◌≡◌, ℕ, zero, suc, ◌+◌, Bool, true, false, cond, ◌&&◌, List, Option, [], ◌∷◌, ◌++◌, map, sym, refl, ap, ◌∙◌, add-one, arith}
 use Rattle.std.specs.List.{range_with_len, list_all}
 use Rattle.std.specs.declared.ops.Range.{Range}
 use Rattle.std.proofs.iter.Yields.{nat_range_steps}
@@ -41,3 +41,19 @@ pub all_counting : {F : Type 0} {g : Mut F (ℕ × Unit {0}) Bool} {s u : Range 
     → (xs : List ℕ) × (o : Option ℕ) × (j : F) × YieldsThen nat_range_steps s xs o u × FoldsTo (λ p x q. Called g p (x, tt) true q) e xs j × MatchOption o (r ≡ true) (λ x. (r ≡ false) × ((h : F) × Called g j (x, tt) false h))
     → ((x : ℕ) (b : Bool) (q : F) → Called g e (x, tt) b q → (q ≡ e) × (b ≡ test x)) → r ≡ each_counting own choice n test
 all_counting {u = u} {e = e} {r = r} own choice n test is ran makes = all_from_yields_List test u e r ran (counting_yields own choice n is) makes ∙ all_counted test own choice n
+
+and_cross : (a b c d : Bool) → ((a && b) && (c && d)) ≡ ((a && c) && (b && d))
+and_cross false b c d = refl
+and_cross true b true d = refl
+and_cross true true false d = refl
+and_cross true false false d = refl
+
+all_both : (f g : ℕ → Bool) (n : ℕ) → all_below (λ k. f k && g k) n ≡ (all_below f n && all_below g n)
+unfolding all_below
+all_both f g zero = refl
+all_both f g (suc n) = ap (λ b. b && (f n && g n)) (all_both f g n) ∙ and_cross (all_below f n) (all_below g n) (f n) (g n)
+
+-- two tests of each move that counts, in one
+pub each_both : (f g : ℕ → Bool) (own : Bool) (choice n : ℕ) → each_counting own choice n (λ k. f k && g k) ≡ (each_counting own choice n f && each_counting own choice n g)
+each_both f g true choice n = refl
+each_both f g false choice n = all_both f g n

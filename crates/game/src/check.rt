@@ -1,5 +1,5 @@
 // The check: a sheet is accepted exactly if it keeps the five rules, and then its colours say who wins.
-ghost use Rattle.std.specs.Prelude.{◌≡◌, ◌<◌, true, length, None, ◌==◌};
+ghost use Rattle.std.specs.Prelude.{◌≡◌, ◌<◌, ◌&&◌, ◌||◌, not, true, length, None, nat_lt, ◌==◌};
 ghost use Rattle.std.specs.Option.{option_map};
 ghost use Rattle.game.specs.Positions.{position, degree};
 ghost use Rattle.game.specs.Sheets.{entry_of, Settles};
@@ -31,6 +31,13 @@ fn rank_fits(same_kind: bool, rank: u16) -> bool
     if same_kind { rank == 0 } else { rank >= 1 }
 }
 
+// Whether the moves of an entry that count keep the rules 23 and, as far as it asks something of them, 25.
+#[derive(Clone, Copy)]
+struct MoveRules {
+    keep_colour: bool,
+    fall: bool,
+}
+
 // A position under check, with what the game and the sheet say of it; the sheet has an entry for each
 // position. Level and number of moves are kept, since they are asked for at every move.
 #[derive(Drop)]
@@ -48,20 +55,35 @@ struct CheckedEntry<'a, G: Game> {
 }
 
 impl<'a, G: Game> CheckedEntry<'a, G> {
+    // Whether a target has an entry of the same colour.
+    fn has_colour(&self, target: usize) -> bool
+        requires { target < length self.now.sheet.now }
+        ensures { result ≡ ((entry_of self.now.sheet.now target).colour == self.now.entry.colour) }
+    {
+        self.sheet[target].colour == self.entry.colour
+    }
+
+    // Whether a target lies in another level or has a smaller rank.
+    fn falls_to(&self, target: usize) -> bool
+        requires { target < length self.now.sheet.now }
+        ensures { result ≡ (not ((position (G.meaning self.now.game.now) target).level == self.now.level) || nat_lt (entry_of self.now.sheet.now target).rank self.now.entry.rank) }
+    {
+        level_of(self.game, target) != self.level || self.sheet[target].rank < self.entry.rank
+    }
+
     // Whether move `k` leads to an entry of the same colour.
     fn keeps_colour(&self, k: usize) -> bool
         ensures { result ≡ keeps_colour (G.meaning self.now.game.now) self.now.sheet.now self.now.v k }
     {
-        let target = target_of(self.game, self.v, k);
-        self.sheet[target].colour == self.entry.colour
+        self.has_colour(target_of(self.game, self.v, k))
     }
 
-    // Whether move `k` leaves the level or leads to a smaller rank.
-    fn rank_falls(&self, k: usize) -> bool
-        ensures { result ≡ rank_falls (G.meaning self.now.game.now) self.now.sheet.now self.now.v k }
+    // Whether move `k` does, and leaves the level or leads to a smaller rank. It asks for the target once.
+    fn keeps_both(&self, k: usize) -> bool
+        ensures { result ≡ (keeps_colour (G.meaning self.now.game.now) self.now.sheet.now self.now.v k && rank_falls (G.meaning self.now.game.now) self.now.sheet.now self.now.v k) }
     {
         let target = target_of(self.game, self.v, k);
-        level_of(self.game, target) != self.level || self.sheet[target].rank < self.entry.rank
+        self.has_colour(target) && self.falls_to(target)
     }
 
     // The moves that count: the chosen one where the colour owns the position, else all.
@@ -83,11 +105,28 @@ impl<'a, G: Game> CheckedEntry<'a, G> {
         self.counting(own).all(|k| self.keeps_colour(k))
     }
 
-    // Whether the rank falls along each move that counts.
-    fn ranks_fall(&self, own: bool) -> bool
-        ensures { result ≡ each_counting own self.now.entry.choice self.now.move_count (rank_falls (G.meaning self.now.game.now) self.now.sheet.now self.now.v) }
+    // Whether each move that counts keeps the colour, and the rank falls along each.
+    fn moves_keep_both(&self, own: bool) -> bool
+        ensures { result ≡ (each_counting own self.now.entry.choice self.now.move_count (keeps_colour (G.meaning self.now.game.now) self.now.sheet.now self.now.v) && each_counting own self.now.entry.choice self.now.move_count (rank_falls (G.meaning self.now.game.now) self.now.sheet.now self.now.v)) }
     {
-        self.counting(own).all(|k| self.rank_falls(k))
+        self.counting(own).all(|k| self.keeps_both(k))
+    }
+
+    // What the moves that count keep. Of an entry that keeps both rules one pass over them shows it.
+    fn move_rules(&self, own: bool, same_kind: bool) -> MoveRules
+        ensures keep_colour { result.keep_colour ≡ each_counting own self.now.entry.choice self.now.move_count (keeps_colour (G.meaning self.now.game.now) self.now.sheet.now self.now.v) }
+        ensures fall { result.keep_colour ≡ true → result.fall ≡ (same_kind || each_counting own self.now.entry.choice self.now.move_count (rank_falls (G.meaning self.now.game.now) self.now.sheet.now self.now.v)) }
+    {
+        if !same_kind && self.moves_keep_both(own) {
+            return MoveRules {
+                keep_colour: true,
+                fall: true,
+            };
+        }
+        MoveRules {
+            keep_colour: self.moves_keep_colour(own),
+            fall: same_kind,
+        }
     }
 
     // The first rule that the entry breaks.
@@ -108,14 +147,15 @@ impl<'a, G: Game> CheckedEntry<'a, G> {
         if !choice_fits(own, self.entry.choice, self.move_count) {
             return Err(Refusal::Choice(v));
         }
-        if !self.moves_keep_colour(own) {
+        let same_kind = colour == kind_of(self.game, v);
+        let moves = self.move_rules(own, same_kind);
+        if !moves.keep_colour {
             return Err(Refusal::Move(v));
         }
-        let same_kind = colour == kind_of(self.game, v);
         if !rank_fits(same_kind, self.entry.rank) {
             return Err(Refusal::Rank(v));
         }
-        if !same_kind && !self.ranks_fall(own) {
+        if !moves.fall {
             return Err(Refusal::Fall(v));
         }
         Ok(())
