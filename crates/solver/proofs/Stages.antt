@@ -8,11 +8,12 @@ use Rattle.game.specs.Sides.{number_of}
 use Rattle.game.specs.Positions.{Position, position}
 use Rattle.game.specs.Laws.{Lawful}
 use Rattle.game.specs.Sheets.{blank_entry, entry_of}
-use Rattle.rounds.specs.Rounds.{taker, forced, taken_by, taken, colour_of, rank_up_to, takes_at}
+use Rattle.rounds.specs.Rounds.{taker, forced, taken_by, taken, colour_of, rank_up_to, takes_at, adds}
+use Rattle.rounds.proofs.Belows.{any_false}
 use Rattle.rounds.proofs.Taking.{Agree, taken_none, taken_next, not_taking, taking}
 use Rattle.rounds.proofs.Levels.{colour_is}
 use Rattle.rounds.proofs.Ranks.{rank_none, rank_kept, rank_new, rank_later, rank_says}
-use Rattle.solver.specs.Stages.{Marked, DoneFrom, Stage, Cleared, Readable}
+use Rattle.solver.specs.Stages.{Marked, DoneFrom, Stage, Cleared, Readable, IsTakenIn, AllTaken}
 
 -- an entry other than the one written stays
 entry_other : (es : List Entry) (v w : ℕ) (x : Entry) → w ≢ v → entry_of (set es v x) w ≡ entry_of es w
@@ -67,12 +68,11 @@ module _ (ps : List Position) (lawful : Lawful ps) (l n i : ℕ) (es : List Entr
       mark : Marked ps n es i
       mark = stage.rest i (omega arith) h e
 
+      pub ranked_taken : ((entry_of es i).rank ≡ 0 → ⊥) → taken ps n i ≡ true
+      ranked_taken r = elim (cases_Bool (taken ps n i)) [ inl t ↦ t | inr t ↦ absurd (r (mark.rank ∙ rank_none ps (colour_of ps) n i t)) ]
+
       pub takes_ranked : ((entry_of es i).rank ≡ 0 → ⊥) → false ≡ takes_at ps l n i
-      takes_ranked r = sym (and_right (eqb (position ps i).level l) _ (and_right (taken ps (suc n) i) _ (not_from_true _ (was_taken (cases_Bool (taken ps n i))))))
-        where
-          was_taken : (taken ps n i ≡ true) ⊎ (taken ps n i ≡ false) → taken ps n i ≡ true
-          was_taken (inl t) = t
-          was_taken (inr t) = absurd (r (mark.rank ∙ rank_none ps (colour_of ps) n i t))
+      takes_ranked r = sym (and_right (eqb (position ps i).level l) _ (and_right (taken ps (suc n) i) _ (not_from_true _ (ranked_taken r))))
 
       pub takes_forced : (b : Bool) → b ≡ forced ps (colour_of ps) (taken ps n) i → (entry_of es i).rank ≡ 0 → b ≡ takes_at ps l n i
       takes_forced b f r =
@@ -105,6 +105,17 @@ module _ (ps : List Position) (lawful : Lawful ps) (l n i : ℕ) (es : List Entr
       ];
       rest = λ w b c e. stage.rest w (omega arith) c e;
     }
+
+-- where a position of the level is left by no round
+module _ (ps : List Position) (l n : ℕ) where
+  pub none_left : (i : ℕ) → AllTaken ps l n i → IsTakenIn ps l n i → AllTaken ps l n (suc i)
+  none_left i before here v b = elim (cases_eq v i) [ inl s ↦ subst (λ (x : ℕ). IsTakenIn ps l n x) (sym s) here | inr s ↦ before v (omega arith) ]
+
+  pub none_added : AllTaken ps l n (length ps) → adds ps l n ≡ false
+  none_added all = any_false (takes_at ps l n) (length ps) (λ v b. elim (cases_eq (position ps v).level l) [
+    | inl e ↦ and_right (eqb (position ps v).level l) _ (and_right (taken ps (suc n) v) _ (not_from_true _ (all v b e)))
+    | inr e ↦ and_left _ _ (ne_eqb _ _ e)
+  ])
 
 -- two marks of the same side and rank
 pub mark_same : (a b : Side) (m n : ℕ) → a ≡ b → m ≡ n → ◌≡◌ {A = Entry} (record { colour = number_of a; choice = 0; rank = m }) (record { colour = number_of b; choice = 0; rank = n })

@@ -1,5 +1,5 @@
 -- How far a sheet is filled in, for the contracts of private functions. No promise rests on this.
-use Rattle.std.specs.Prelude.{◌≡◌, ℕ, suc, ◌<◌, ◌≤◌, cond, ◌&&◌, List, length, nat_le}
+use Rattle.std.specs.Prelude.{◌≡◌, ℕ, suc, ◌<◌, ◌≤◌, true, cond, ◌&&◌, List, length, nat_le}
 use Rattle.game.specs.declared.sheet.Entry.{Entry}
 use Rattle.game.specs.Sides.{number_of}
 use Rattle.game.specs.Positions.{Position, position}
@@ -21,6 +21,14 @@ pub record Stage (ps : List Position) (l n i : ℕ) (es : List Entry) : Type 0 w
   pub above : DoneFrom ps (suc l) es
   pub passed : (v : ℕ) → v < i → v < length ps → (position ps v).level ≡ l → Marked ps (suc n) es v
   pub rest : (v : ℕ) → i ≤ v → v < length ps → (position ps v).level ≡ l → Marked ps n es v
+
+-- If v is in level l, it is taken by the end of round n.
+abbrev pub IsTakenIn : List Position → ℕ → ℕ → ℕ → Type 0
+IsTakenIn ps l n v = (position ps v).level ≡ l → taken ps n v ≡ true
+
+-- Each position of level l below i is taken by the end of round n.
+abbrev pub AllTaken : List Position → ℕ → ℕ → ℕ → Type 0
+AllTaken ps l n i = (v : ℕ) → v < i → IsTakenIn ps l n v
 
 -- Level l has been cleared up to position i, the levels above being done.
 pub record Cleared (ps : List Position) (l i : ℕ) (es : List Entry) : Type 0 where
