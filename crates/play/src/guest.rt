@@ -17,6 +17,7 @@ use plain::standing::Record;
 
 impl<'a, G: Game> Board<'a, G> {
     // Where reply `k` leads on a turn with a given record, or why it is refused.
+    #[inline(always)]
     fn target_of_reply(&self, log: Record, k: usize) -> Result<usize, CallRefusal>
         ensures refusal { told call_tells result ≡ call_refusal (G.Game.meaning self.now.game.now) self.now.sheet.now log (Reply k) }
         ensures target { IfOk result (λ w. w ≡ target (G.Game.meaning self.now.game.now) log.position k) }

@@ -18,6 +18,7 @@ use plain::standing::Record;
 
 impl<'a, G: Game> Board<'a, G> {
     // Where go leads on a turn with a given record, or why it is refused.
+    #[inline(always)]
     fn target_of_go(&self, log: Record) -> Result<usize, CallRefusal>
         ensures refusal { told call_tells result ≡ call_refusal (G.Game.meaning self.now.game.now) self.now.sheet.now log Go }
         ensures target { IfOk result (λ w. w ≡ target (G.Game.meaning self.now.game.now) log.position (entry_of self.now.sheet.now log.position).choice) }
