@@ -1,13 +1,14 @@
 -- What lists without a fault keep.
-use Rattle.std.specs.Prelude.{◌≡◌, ℕ, ◌+◌, ◌<◌, ◌≤◌, Bool, true, false, List, length, None, nat_le, slice_index}
+use Rattle.std.specs.Prelude.{◌≡◌, ℕ, ◌+◌, ◌<◌, ◌≤◌, Bool, true, false, ◌&&◌, List, length, Some, None, nat_le, slice_index}
 use Rattle.std.proofs.Common.{refl, sym, ◌∙◌, arith}
 use Rattle.std.specs.List.{list_all}
 use Rattle.std.proofs.lemmas.List.Folds.{list_all_at}
-use Rattle.std.proofs.lemmas.Bool.{and_parts, leb-true, ltb-true}
+use Rattle.std.proofs.lemmas.Bool.{cond-true, and_parts, leb-true, ltb-true}
 use Rattle.std.proofs.lemmas.Bool.Decides.{nat_tests}
 use Rattle.game.specs.Laws.{most_positions, most_moves}
-use Rattle.game.specs.Refusals.{refused_at}
-use Rattle.game.proofs.Firsts.{first_clear, unless_none}
+use Rattle.game.specs.Refusals.{Refused, refused_at}
+use Rattle.game.specs.First.{first_below}
+use Rattle.game.proofs.Firsts.{first_found, first_clear, unless_none}
 use Rattle.games.specs.declared.row.Row.{Row}
 use Rattle.games.specs.Rows.{span_of, is_inside, keeps_law, is_lawful, row_of, row_refusal, rows_refusal}
 
@@ -18,6 +19,12 @@ all_at p xs e k h = elim (p (slice_index xs k)) as (λ b. p (slice_index xs k) �
 ] refl
 
 module _ (rs : List Row) (ts : List ℕ) where
+  -- the fault of row i is the first
+  pub fault_first : (i : ℕ) (x : Refused) → true ≡ (nat_le 1 (length rs) && nat_le (length rs) most_positions) → i < length rs → first_below (row_refusal rs ts) i ≡ None → Some x ≡ row_refusal rs ts i → Some x ≡ rows_refusal rs ts
+  fault_first i x sized h clear e =
+      sym (cond-true _ _ _ (sym sized)
+      ∙ first_found (row_refusal rs ts) i (length rs) x clear (sym e) h)
+
   -- a row without a fault
   pub record Sound (r : Row) : Type 0 where
     pub span : r.first + r.count ≤ length ts
